@@ -6,7 +6,8 @@ use Rattle.std.proofs.lemmas.List.{take-append-drop, take_all}
 use Rattle.std.proofs.Math.Seq.{take-add}
 use mathlib.Core.List.{IsPrefix}
 use Rattle.run_types.specs.Destinations.{Destination}
-use Rattle.collector.specs.Files.{FilesShown, SameFiles, Grows, SamePlaces, WritesOnly, writes_of}
+use Rattle.collector.specs.Files.{FilesShown, SameFiles, Grows, SamePlaces, WriteLog, WritesOnly}
+use Rattle.collector.specs.Files.{nothing_written, out_of, writes_of}
 
 -- ---- what is in place
 
@@ -89,6 +90,7 @@ rest_of at bytes = take_all (length bytes - at) (drop at bytes)
 pub record WrittenUpTo (file : ℕ) (bytes : List ℕ) (at : ℕ) (first now : FilesShown) : Type 0 where
   pub within : at ≤ length bytes
   pub told : writes_of now file ≡ writes_of first file ++ take at bytes
+  pub out : out_of now file ≡ out_of first file
   pub only : WritesOnly file first now
   pub failures : now.failures ≡ first.failures
 
@@ -97,6 +99,7 @@ module _ (file : ℕ) (bytes : List ℕ) (first : FilesShown) where
   written_none still = record {
     within = omega arith;
     told = sym (append-nil (writes_of first file));
+    out = refl;
     only = writes_none file first still;
     failures = refl;
   }
@@ -105,9 +108,9 @@ module _ (file : ℕ) (bytes : List ℕ) (first : FilesShown) where
   pub written_more : (at n : ℕ) (mid now : FilesShown)
       → n ≤ length (take (length bytes - at) (drop at bytes)) → WritesOnly file mid now →
       (writes_of now file ≡ writes_of mid file ++ take n (take (length bytes - at) (drop at bytes)))
-      → now.failures ≡ mid.failures →
+      → out_of now file ≡ out_of mid file → now.failures ≡ mid.failures →
       WrittenUpTo file bytes at first mid → WrittenUpTo file bytes (at + n) first now
-  written_more at n mid now fits only told failures w =
+  written_more at n mid now fits only told out failures w =
       let rest = rest_of at bytes in
       let within : n ≤ length (drop at bytes) = subst (λ (l : List ℕ). n ≤ length l) rest fits in
       record {
@@ -117,6 +120,7 @@ module _ (file : ℕ) (bytes : List ℕ) (first : FilesShown) where
             (take n (take (length bytes - at) (drop at bytes)))
             ∙ ap (λ l. writes_of first file ++ l) (ap (λ l. take at bytes ++ take n l) rest
             ∙ sym (take-add at n bytes))));
+        out = out ∙ w.out;
         only = writes_on file first mid now w.only only;
         failures = failures ∙ w.failures;
       }
@@ -128,5 +132,5 @@ module _ (file : ℕ) (bytes : List ℕ) (first : FilesShown) where
   written_front at mid now same w = (
     take at bytes,
     (drop at bytes, take-append-drop at bytes),
-    ap (λ (l : Option (List ℕ)). unwrap_or l []) (same.outputs file) ∙ w.told,
+    ap (λ (l : Option WriteLog). (unwrap_or l nothing_written).bytes) (same.outputs file) ∙ w.told,
   )

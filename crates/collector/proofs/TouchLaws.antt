@@ -4,7 +4,8 @@ use Rattle.std.proofs.Common.{◌∙◌, subst, append_assoc, append-nil, ⊎_el
 use Rattle.std.proofs.lemmas.Bool.{cases_eq}
 use mathlib.Core.List.{IsPrefix}
 use Rattle.run_types.specs.Destinations.{Destination}
-use Rattle.collector.specs.Files.{FilesShown, ReadLog, nothing_read, SameFiles, SameHeld}
+use Rattle.collector.specs.Files.{FilesShown, ReadLog, WriteLog, nothing_read, nothing_written}
+use Rattle.collector.specs.Files.{SameFiles, SameHeld}
 use Rattle.collector.specs.Files.{AreReadsOf, ReadOnInHeld, ReadsOnly, WritesOnly, ReadsGoOn, Grows}
 use Rattle.collector.specs.Files.{IsSoleWriter, TouchesOnly, reads_of, writes_of}
 use Rattle.collector.proofs.Logs.{grows_none, grows_on, places_none, places_on}
@@ -34,7 +35,7 @@ log_of old new file e = ap (λ (o : Option ReadLog). unwrap_or o nothing_read) e
 
 pub taken_of : (old new : FilesShown) (file : ℕ) → new.outputs file ≡ old.outputs file
     → writes_of new file ≡ writes_of old file
-taken_of old new file e = ap (λ (o : Option (List ℕ)). unwrap_or o []) e
+taken_of old new file e = ap (λ (o : Option WriteLog). (unwrap_or o nothing_written).bytes) e
 
 -- ---- what inputs held
 

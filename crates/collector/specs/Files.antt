@@ -14,6 +14,8 @@ use Rattle.run_types.specs.declared.names.OutName.{OutName}
 use Rattle.run_types.specs.Destinations.{Destination, FileOf, destination_of, is_kept}
 use Rattle.collector.specs.declared.needed.LeftOut.{LeftOut}
 use Rattle.collector.specs.declared.needed.LeftOut.TheVariants.{Nothing}
+use Rattle.collector.specs.declared.batch.Batch.{Batch}
+use Rattle.collector.specs.declared.batch.Batch.TheVariants.{Joined, Single}
 use Rattle.collector.specs.declared.names.Opening.{Opening}
 use Rattle.collector.specs.declared.names.Opening.TheVariants.{Input, Output}
 
@@ -26,9 +28,24 @@ pub record ReadLog : Type 0 where
 abbrev pub nothing_read : ReadLog
 nothing_read = record { bytes = []; at_end = false }
 
+-- what the writes of one opening took, in order, and what was handed over to be written after that
+-- and may not be written yet
+pub record WriteLog : Type 0 where
+  pub bytes : List ℕ
+  pub out : List ℕ
+
+-- nothing was written, and nothing handed over
+abbrev pub nothing_written : WriteLog
+nothing_written = record { bytes = []; out = [] }
+
+-- the bytes of a batch
+abbrev pub batch_bytes : Batch → List ℕ
+batch_bytes (Joined bytes) = bytes.items
+batch_bytes (Single piece) = piece
+
 -- What files show of themselves: the openings that were answered, oldest first; by the number of an
--- open input what its reads gave; by that of an open output what its writes took, and what it
--- writes to; what the standard output and the file of each name hold, and what the standard input
+-- open input what its reads gave; by that of an open output what its writes took and what is out,
+-- and what it writes to; what the standard output and the file of each name hold, and what the standard input
 -- has to give; by the number of an open input what it has to give, of what its file held when it
 -- was opened; and how many reads and writes have failed. What is not known is None, as what is not
 -- there. By the number of an open input also whether a front of it was left out. The outputs may be
@@ -37,7 +54,7 @@ nothing_read = record { bytes = []; at_end = false }
 pub record FilesShown : Type 0 where
   pub openings : List Opening
   pub inputs : ℕ → Option ReadLog
-  pub outputs : ℕ → Option (List ℕ)
+  pub outputs : ℕ → Option WriteLog
   pub targets : ℕ → Option Destination
   pub contents : Destination → Option (List ℕ)
   pub standard_input : Option (List ℕ)
@@ -56,9 +73,17 @@ content_for s (in_names.File name) = s.contents (FileOf name)
 abbrev pub reads_of : FilesShown → ℕ → ReadLog
 reads_of s file = unwrap_or (s.inputs file) nothing_read
 
+-- what the writes of the file took, and what is out
+abbrev pub log_of : FilesShown → ℕ → WriteLog
+log_of s file = unwrap_or (s.outputs file) nothing_written
+
 -- what the writes of the file took
 abbrev pub writes_of : FilesShown → ℕ → List ℕ
-writes_of s file = unwrap_or (s.outputs file) []
+writes_of s file = (log_of s file).bytes
+
+-- what was handed over to be written to the file, and may not be written yet
+abbrev pub out_of : FilesShown → ℕ → List ℕ
+out_of s file = (log_of s file).out
 
 -- each file has the log that it had
 abbrev pub SameLogs : {L : Type 0} → (ℕ → Option L) → (ℕ → Option L) → Type 0
@@ -137,7 +162,7 @@ pub record OpensHeld (name : InName) (file : ℕ) (old new : FilesShown) : Type 
 pub record OpensOutput (name : OutName) (file : ℕ) (old new : FilesShown) : Type 0 where
   pub openings : new.openings ≡ old.openings ++ Output name (Some file) ∷ []
   pub number : old.outputs file ≡ None
-  pub log : new.outputs file ≡ Some []
+  pub log : new.outputs file ≡ Some nothing_written
   pub inputs : SameLogs old.inputs new.inputs
   pub outputs : OtherLogs file old.outputs new.outputs
   pub targets : OtherLogs file old.targets new.targets
@@ -204,6 +229,24 @@ pub record WritesOnly (file : ℕ) (old new : FilesShown) : Type 0 where
   pub held : SameHeld old new
   pub others : (d : Destination) → (old.targets file ≡ Some d → ⊥) → new.contents d ≡ old.contents d
   pub places : SamePlaces old new
+
+-- These bytes were handed over, to be written after what was written before. None of them counts as
+-- written yet. Nothing else was out.
+pub record HandsOver (file : ℕ) (bytes : List ℕ) (old new : FilesShown) : Type 0 where
+  pub only : WritesOnly file old new
+  pub free : out_of old file ≡ []
+  pub log : new.outputs file ≡ Some (record { bytes = writes_of old file; out = bytes })
+  pub failures : new.failures ≡ old.failures
+
+-- all that was out is written
+abbrev pub SettlesAll : WriteLog → WriteLog → Type 0
+SettlesAll old new = new ≡ record { bytes = old.bytes ++ old.out; out = [] }
+
+-- Nothing is out any more. Of what was, the first bytes are written, and the write of the others
+-- failed.
+abbrev pub SettlesSome : WriteLog → WriteLog → Type 0
+SettlesSome old new = (front : List ℕ) × IsPrefix front old.out
+    × (new ≡ record { bytes = old.bytes ++ front; out = [] })
 
 -- A read with room for this many bytes returned these: they follow what earlier reads returned. If
 -- there was room and it returned none, that is the end. After the end every read returns none.

@@ -5,15 +5,15 @@
 -- pipe waits, and one to a pipe that nobody reads is broken. A sink reads a pipe to its end and
 -- writes what it read to its file; a read of an empty pipe that is still open waits (POSIX.1-2017
 -- XSH read, write; pipe(7)).
-use Rattle.std.specs.Prelude.{◌≡◌, ◌≢◌, ℕ, ◌<◌, Bool, true, false, List, [], Option, Some, None}
-use Rattle.std.specs.Prelude.{is_none}
+use Rattle.std.specs.Prelude.{◌≡◌, ◌≢◌, ℕ, ◌<◌, ◌⊎◌, Bool, true, false, List, [], Option, Some}
+use Rattle.std.specs.Prelude.{None, is_none}
 use Rattle.bounded_pipe.specs.Ends.{Writing, Reading, WritesOn, ReadsOn, KnowsFull}
 use Rattle.bounded_pipe.specs.Events.{SameWriting, SameReading}
 use Rattle.bounded_pipe.specs.Pipes.{is_closed, is_at_end, events_of_writing, events_of_reading}
 use Rattle.collector.specs.Sources.{SourcePart, SinkPart, SourceCase, SinkCase, source_owes}
 use Rattle.collector.specs.Sources.{held_size}
-use Rattle.collector.specs.Files.{FilesShown, ReadLog, nothing_read, reads_of, writes_of, SameFiles}
-use Rattle.collector.specs.Files.{ReadsOnly, ReadsAtMost, WritesOnly, one_more}
+use Rattle.collector.specs.Files.{FilesShown, ReadLog, WriteLog, nothing_read, reads_of, log_of}
+use Rattle.collector.specs.Files.{out_of, SameFiles, ReadsOnly, ReadsAtMost, WritesOnly, one_more}
 use Rattle.run_types.specs.declared.names.InName.{InName}
 use Rattle.run_types.specs.declared.names.OutName.{OutName}
 use Rattle.run_types.specs.declared.node_state.NodeFault.{NodeFault}
@@ -51,9 +51,9 @@ pub record SinkShown : Type 0 where
 abbrev pub source_part : List ℕ → SourceShown → SourcePart
 source_part read x = record { state = x.state; read = read; at_end = x.at_end; held = x.held }
 
--- The sink without its end, if its writes took these bytes: between steps it holds nothing.
-abbrev pub sink_part : List ℕ → SinkShown → SinkPart
-sink_part written x = record { state = x.state; held = []; written = written }
+-- The sink without its end, if its file shows this: it has still to write what is out.
+abbrev pub sink_part : WriteLog → SinkShown → SinkPart
+sink_part log x = record { state = x.state; held = log.out; written = log.bytes }
 
 -- what the reads of a source's file gave; a source without a file has read nothing
 abbrev pub read_by : FilesShown → Option ℕ → ReadLog
@@ -67,9 +67,9 @@ pub record SourceFits (log : ReadLog) (x : SourceShown) : Type 0 where
   pub unclosed : x.state ≡ states.Running → is_closed x.end ≡ false
   pub case : SourceCase x.block (is_none x.file) (source_part log.bytes x) x.state x.end
 
--- a sink fits what its writes took: it is in its case
-abbrev pub SinkFits : List ℕ → SinkShown → Type 0
-SinkFits written x = SinkCase (sink_part written x) x.state x.end
+-- a sink fits what its file shows: it is in its case
+abbrev pub SinkFits : WriteLog → SinkShown → Type 0
+SinkFits log x = SinkCase (sink_part log x) x.state x.end
 
 -- a sink that runs has not taken Close
 abbrev pub IsUnended : SinkShown → Type 0
@@ -144,6 +144,11 @@ SinkSays old new steps.Ended = new.state ≡ states.Ended
 SinkSays old new steps.Broken = ⊥
 SinkSays old new steps.Failed = new.state ≡ states.Failed faults.WriteFault
 
+-- After a step with this result nothing is out, unless the step moved something.
+abbrev pub IsIdle : Step → List ℕ → Type 0
+IsIdle steps.Moved out = Unit {0}
+IsIdle _ out = out ≡ []
+
 -- a source without a file leaves the files; one with a file changes no log but that of its file
 abbrev pub ReadsOwn : Option ℕ → FilesShown → FilesShown → Type 0
 ReadsOwn None old new = SameFiles old new
@@ -185,6 +190,16 @@ abbrev pub sink_fault : OutName → NodeState → Option RunFault
 sink_fault name (states.Failed faults.WriteFault) = Some (run_faults.WriteFault name)
 sink_fault name state = None
 
+-- What it is that a sink settles: it keeps its case, nothing is out after that, it writes its own
+-- file alone, and it takes nothing. It fails if a write did. If it does not run, nothing happens.
+pub record SinkSettles (y z : SinkShown) (old new : FilesShown) : Type 0 where
+  pub fits : SinkFits (log_of old y.file) y → SinkFits (log_of new z.file) z
+  pub settled : SinkFits (log_of old y.file) y → out_of new z.file ≡ []
+  pub after : (z ≡ y) ⊎ (z ≡ record y { state = states.Failed faults.WriteFault })
+  pub own : WritesOnly y.file old new
+  pub failures : new.failures ≡ failures_after y.state z.state old.failures
+  pub stays : y.state ≢ states.Running → (z ≡ y) × (new ≡ old)
+
 -- What a step of a source is: its case is kept, its result is true, its end goes on, it reads its
 -- own file alone, and at most `block` bytes of it. If the source does not run, nothing happens.
 pub record SourceActs (x z : SourceShown) (old new : FilesShown) (step : Step) : Type 0 where
@@ -199,9 +214,10 @@ pub record SourceActs (x z : SourceShown) (old new : FilesShown) (step : Step) :
 
 -- what a step of a sink is: the same of the file that it writes
 pub record SinkActs (y z : SinkShown) (old new : FilesShown) (step : Step) : Type 0 where
-  pub fits : SinkFits (writes_of old y.file) y → SinkFits (writes_of new z.file) z
+  pub fits : SinkFits (log_of old y.file) y → SinkFits (log_of new z.file) z
   pub unended : IsUnended y → IsUnended z
   pub says : SinkSays y z step
+  pub idle : SinkFits (log_of old y.file) y → IsIdle step (out_of new z.file)
   pub same : SameSink y z
   pub goes_on : ReadsOn y.end z.end
   pub own : WritesOnly y.file old new

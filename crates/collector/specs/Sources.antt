@@ -80,12 +80,12 @@ pub record SinkKeeps (x : SinkPart) (r : Reading) : Type 0 where
   pub stays : r.hung_up ≡ false
 
 -- The case of a sink in this state. It has ended if it took Close and wrote all; it never breaks;
--- and if it failed, what was written is a prefix of what was taken.
+-- and if it failed, what was written is a prefix of what was taken, and it has nothing to write.
 abbrev pub SinkCase : SinkPart → NodeState → Reading → Type 0
 SinkCase x Running r = SinkKeeps x r
 SinkCase x Ended r = SinkKeeps x r × (is_at_end r ≡ true) × (x.held ≡ [])
 SinkCase x Broken r = ⊥
-SinkCase x (Failed fault) r = IsPrefix x.written (bytes_taken r)
+SinkCase x (Failed fault) r = IsPrefix x.written (bytes_taken r) × (x.held ≡ [])
 
 -- whether a source owes an item: the piece that it holds, or Close once the end was read or if
 -- there is nothing to read

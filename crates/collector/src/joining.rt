@@ -1,6 +1,8 @@
-ghost use Rattle.std.specs.Prelude.{◌≡◌, ◌++◌, []};
+ghost use Rattle.std.specs.Prelude.{◌≡◌, ◌+◌, ◌≤◌, ◌++◌, false, length, IsTrue};
+ghost use Rattle.std.specs.Vec.{vec_capacity};
 ghost use Rattle.bounded_pipe.specs.Ends.{Reading};
-ghost use Rattle.collector.specs.inner.Joins.{Took, item_bytes, is_last, rest_bytes, rest_is_last};
+ghost use Rattle.bounded_pipe.specs.Pipes.{BeginsWithPiece};
+ghost use Rattle.collector.specs.inner.Joins.{Took};
 
 use bounded_pipe::PipeIn;
 use machine::Item;
@@ -11,46 +13,38 @@ const SHORT: usize = 4096;
 // At most this many pieces are joined to the first one.
 const MOST: usize = 255;
 
-// Joins the bytes of this item and of the next ones in the pipe. It goes on while they are short pieces, are there and have room.
-// Returns the first item that it took and did not join, if there is one.
-pub(crate) fn join_short(
-    end: &mut PipeIn,
-    item: Item,
-    room: usize,
-    bytes: &mut Vec<u8>,
-) -> Option<Item>
-    requires empty { bytes.old.items ≡ [] }
-    ensures took { (start : Reading) → Took start end.old (item_bytes item) (is_last item)
-        → Took start end.new (bytes.new.items ++ rest_bytes result) (rest_is_last result) }
-{
-    let mut rest = join_one(item, room, bytes);
-    for _ in 0..MOST {
-        if rest.is_some() {
-            return rest;
-        }
-        match end.take() {
-            Some(next) => rest = join_one(next, room, bytes),
-            None => return None,
-        }
-    }
-    rest
+// Whether a piece of this size is short, and joined bytes of this many may have it after them in so much room.
+pub(crate) fn is_short(size: usize, joined: usize, room: usize) -> bool {
+    size <= SHORT.min(room.saturating_sub(joined))
 }
 
-// Appends the bytes of an item if it is a short piece for which there is room. Otherwise the item comes back.
-fn join_one(item: Item, room: usize, bytes: &mut Vec<u8>) -> Option<Item>
-    ensures bytes { bytes.new.items ++ rest_bytes result ≡ bytes.old.items ++ item_bytes item }
-    ensures last { rest_is_last result ≡ is_last item }
+// Takes the next items of the pipe and joins their bytes, as long as they are short pieces, are there and have room.
+pub(crate) fn join_short(end: &mut PipeIn, room: usize, bytes: &mut Vec<u8>)
+    ensures took { (start : Reading) → Took start end.old bytes.old.items false
+        → Took start end.new bytes.new.items false }
 {
-    match item {
-        Item::Bytes(piece) => {
-            if piece.len() > SHORT.min(room.saturating_sub(bytes.len())) {
-                return Some(Item::Bytes(piece));
-            }
-            match bytes.extend_from_slice(piece.bytes()) {
-                Ok(()) => None,
-                Err(_) => Some(Item::Bytes(piece)),
-            }
+    for _ in 0..MOST {
+        let Some(size) = end.next_size() else {
+            return;
+        };
+        if !is_short(size, bytes.len(), room) || bytes.reserve(size).is_err() {
+            return;
         }
-        Item::Close => Some(Item::Close),
+        join_next(end, size, bytes);
     }
+}
+
+// Takes the next item of the pipe, which is a piece of this size, and appends its bytes, for which there is memory.
+fn join_next(end: &mut PipeIn, size: usize, bytes: &mut Vec<u8>)
+    requires next { BeginsWithPiece size end.old.known }
+    requires memory { length bytes.old.items + size ≤ vec_capacity bytes.old }
+    ensures took { (start : Reading) → Took start end.old bytes.old.items false
+        → Took start end.new bytes.new.items false }
+{
+    let Some(Item::Bytes(piece)) = end.take() else {
+        unreachable!()
+    };
+    let Ok(()) = bytes.extend_from_slice(piece.bytes()) else {
+        unreachable!()
+    };
 }

@@ -3,7 +3,7 @@ ghost use Rattle.std.specs.Prelude.{◌≡◌, [], List, ℕ, false};
 ghost use Rattle.bounded_pipe.specs.Ends.{Writing, Reading, Beside};
 ghost use Rattle.bounded_pipe.specs.Pipes.{is_closed, IsFull, IsBare};
 ghost use Rattle.bounded_pipe.specs.Events.{SameWriting, SameReading};
-ghost use Rattle.collector.specs.Files.{ReadLog};
+ghost use Rattle.collector.specs.Files.{ReadLog, WriteLog};
 ghost use Rattle.collector.specs.Nodes.{SourceShown, SinkShown, SourceFits, SinkFits, IsUnended, KnowsNoPlace};
 
 /// If the two ends of a pipe have just met, one that refuses is an end of a full pipe whose reader
@@ -21,8 +21,8 @@ pub fn a_wait_is_exact()
 pub fn a_look_keeps_the_case()
     ensures source { (log : ReadLog) (x : SourceShown) (end : Writing) → SameWriting x.end end
         → SourceFits log x → SourceFits log (record x { end = end }) }
-    ensures sink { (written : List ℕ) (x : SinkShown) (end : Reading) → SameReading x.end end
-        → SinkFits written x → SinkFits written (record x { end = end }) }
+    ensures sink { (log : WriteLog) (x : SinkShown) (end : Reading) → SameReading x.end end
+        → SinkFits log x → SinkFits log (record x { end = end }) }
     ensures unended { (x : SinkShown) (end : Reading) → SameReading x.end end → IsUnended x
         → IsUnended (record x { end = end }) }
 {}

@@ -1,6 +1,7 @@
 // The files of a run, and the nodes that touch them: sources and sinks.
 #![tactic(auto)]
 
+pub use batch::Batch;
 pub use fault::RunFault;
 pub use names::Opening;
 pub use needed::{LeftOut, NeededEnd};
@@ -10,6 +11,7 @@ pub use sink::Sink;
 pub use source::Source;
 pub use writing::write_all;
 
+mod batch;
 mod fault;
 mod joining;
 pub mod laws;

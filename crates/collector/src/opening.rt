@@ -1,8 +1,9 @@
-ghost use Rattle.std.specs.Prelude.{◌≡◌, ◌≤◌, ℕ, Bool, ◌++◌, length, take, None, Some, IsSome, IfOk, IsOk, IsErr, IsErrOf, OnOk, OnErr, IsTrue, false};
+ghost use Rattle.std.specs.Prelude.{◌≡◌, ◌≤◌, ℕ, Bool, [], ◌++◌, length, take, None, Some, IsSome, IfOk, IfErr, IsOk, IsErr, IsErrOf, OnOk, OnErr, IsTrue, false};
 ghost use Rattle.collector.specs.InputEnds.{LeavesOut, LeavesRest};
 ghost use Rattle.collector.specs.Places.{BeginsOutputs, PutsInPlace, LeavesOutputs};
-ghost use Rattle.collector.specs.Files.{FilesShown, nothing_read, reads_of, writes_of, SameFiles, OpensInput, OpensOutput, OpensDestination, OpensHeld, Refuses, OpensNothing, ReadsOnly, WritesOnly, Reads, one_more};
+ghost use Rattle.collector.specs.Files.{batch_bytes, FilesShown, HandsOver, log_of, nothing_read, out_of, reads_of, writes_of, SameFiles, SettlesAll, SettlesSome, OpensInput, OpensOutput, OpensDestination, OpensHeld, Refuses, OpensNothing, ReadsOnly, WritesOnly, Reads, one_more};
 
+use crate::batch::Batch;
 use crate::names::Opening;
 use crate::needed::NeededEnd;
 use machine::NoMemory;
@@ -130,7 +131,7 @@ pub trait Files: Drop {
         ensures failures { OnOk result ((shows self.new).failures ≡ (shows self.old).failures) };
 
     /// Writes from the slice, and returns how many bytes of it, from the first, were taken: at
-    /// least 1 of a nonempty one.
+    /// least 1 of a nonempty one. It fails if bytes are out that were handed over.
     fn write(&mut self, file: usize, from: &[u8]) -> Result<usize, IoFailed>
         requires opened { IsSome ((shows self.old).outputs file) }
         ensures count { IfOk result (λ n. (n ≤ length from.now) × (1 ≤ length from.now → 1 ≤ n)) }
@@ -138,9 +139,36 @@ pub trait Files: Drop {
         ensures told { IfOk result
             (λ n. writes_of (shows self.new) file
             ≡ writes_of (shows self.old) file ++ take n from.now) }
+        ensures free { IsOk result → out_of (shows self.old) file ≡ [] }
+        ensures out { out_of (shows self.new) file ≡ out_of (shows self.old) file }
         ensures failed { OnErr result
             (SameFiles (shows self.old) (shows self.new)
             × ((shows self.new).failures ≡ one_more (shows self.old).failures)) }
+        ensures failures { OnOk result ((shows self.new).failures ≡ (shows self.old).failures) };
+
+    /// Hands bytes over that are to be written to this output, and does not wait for that. None counts as written until `settle`
+    /// says so. They come back, and nothing changed, if they are to be written by `write`, or if others are out.
+    fn hand_over(&mut self, _file: usize, batch: Batch) -> Result<(), Batch>
+        requires opened { IsSome ((shows self.old).outputs _file) }
+        ensures handed { OnOk result
+            (HandsOver _file (batch_bytes batch) (shows self.old) (shows self.new)) }
+        ensures back { IfErr result (λ back. back ≡ batch) }
+        ensures same { OnErr result (shows self.new ≡ shows self.old) }
+    {
+        Err(batch)
+    }
+
+    /// Waits until all that was handed over to this output is written, or a write of it failed. Returns it, as room for other bytes. If
+    /// nothing is out, or no such output is open, nothing happens.
+    fn settle(&mut self, file: usize) -> Result<Option<Batch>, IoFailed>
+        ensures only { IsSome ((shows self.old).outputs file)
+            → WritesOnly file (shows self.old) (shows self.new) }
+        ensures all { OnOk result (SettlesAll (log_of (shows self.old) file) (log_of (shows self.new) file)) }
+        ensures some { OnErr result
+            (SettlesSome (log_of (shows self.old) file) (log_of (shows self.new) file)) }
+        ensures idle { out_of (shows self.old) file ≡ [] → IsOk result × (shows self.new ≡ shows self.old) }
+        ensures failed { OnErr result
+            ((shows self.new).failures ≡ one_more (shows self.old).failures) }
         ensures failures { OnOk result ((shows self.new).failures ≡ (shows self.old).failures) };
 
     /// Ends an output after all that is written to it, before it is closed. It fails if the system says

@@ -1,14 +1,15 @@
-ghost use Rattle.std.specs.Prelude.{◌↔◌, ◌≡◌, ◌≢◌, false, ◌≤◌, [], List, ℕ, IsSome, IfSome, IsTrue};
+ghost use Rattle.std.specs.Prelude.{◌↔◌, ◌≡◌, ◌≢◌, false, [], IsSome, IfSome, IsTrue, IsFalse};
 ghost use Rattle.std.specs.Option.{option_copied};
 ghost use Rattle.bounded_pipe.specs.Ends.{Reading};
 ghost use Rattle.bounded_pipe.specs.Pipes.{items_taken};
-ghost use Rattle.collector.specs.Files.{FilesShown, writes_of, WritesOnly};
-ghost use Rattle.collector.specs.Nodes.{SinkShown, SinkFits, IsUnended, SinkSays, failures_after, is_failed, sink_fault, SinkActs};
-ghost use Rattle.collector.specs.inner.Parts.{Writes, state_written, IsWriteAnswer, state_finished, IsFinishAnswer, SinkGoesOn};
-ghost use Rattle.collector.specs.inner.Joins.{Took, WritesRest, item_bytes, is_last, state_after};
+ghost use Rattle.collector.specs.Files.{batch_bytes, FilesShown, log_of, nothing_written, out_of, SettlesAll, SettlesSome, WritesOnly};
+ghost use Rattle.collector.specs.Nodes.{SinkShown, SinkFits, IsUnended, IsIdle, SinkSays, failures_after, is_failed, sink_fault, SinkActs, SinkSettles};
+ghost use Rattle.collector.specs.inner.Parts.{state_settled, state_finished, IsFinishAnswer, SinkGoesOn};
+ghost use Rattle.collector.specs.inner.Joins.{Took, PassesOn, TakesNext, state_after, state_next};
 
+use crate::batch::Batch;
 use crate::fault::RunFault;
-use crate::joining::join_short;
+use crate::joining::{is_short, join_short};
 use crate::opening::{Files, IoFailed};
 use crate::writing::write_all;
 use bounded_pipe::PipeIn;
@@ -16,6 +17,7 @@ use machine::{Item, Piece};
 use run_types::{NodeFault, NodeState, OutName, Step};
 use std::alloc::Global;
 use std::marker::Model;
+use std::mem;
 
 /// A node that takes what is in a pipe and writes it to a file.
 #[derive(Drop)]
@@ -64,7 +66,7 @@ impl Sink {
     ) -> Sink
         ensures shown { result
             ≡ record { pipe = pipe; end = end; file = file; name = name; state = NodeState.Running } }
-        ensures fits { items_taken end ≡ [] → end.hung_up ≡ false → SinkFits [] result }
+        ensures fits { items_taken end ≡ [] → end.hung_up ≡ false → SinkFits nothing_written result }
         ensures unended { items_taken end ≡ [] → IsUnended result }
     {
         Sink {
@@ -78,7 +80,8 @@ impl Sink {
         }
     }
 
-    /// One step: takes an item, and short pieces that are there with it, and writes all of them. After Close the output is ended.
+    /// One step. It waits until all that is out is written. Then it takes an item, and short pieces that are there with it, and writes
+    /// them or hands them over. After Close the output is ended.
     pub fn step<F: Files>(&mut self, files: &mut F) -> Step
         requires opened { IsSome ((F.shows files.old).outputs self.old.file) }
         ensures acts { SinkActs self.old self.new (F.shows files.old)
@@ -91,6 +94,16 @@ impl Sink {
             NodeState::Ended => Step::Ended,
             NodeState::Broken => Step::Broken,
             NodeState::Failed(_) => Step::Failed,
+        }
+    }
+
+    /// Waits until all that is out is written, if it runs. If a write failed, so has it. It takes nothing.
+    pub fn settle<F: Files>(&mut self, files: &mut F)
+        requires opened { IsSome ((F.shows files.old).outputs self.old.file) }
+        ensures { SinkSettles self.old self.new (F.shows files.old) (F.shows files.new) }
+    {
+        if self.state == NodeState::Running {
+            self.settle_out(files);
         }
     }
 
@@ -147,46 +160,130 @@ impl Sink {
         &mut self.end
     }
 
-    // One step of a sink that runs.
+    // One step of a sink that runs. What is out is settled first.
     fn go_on<F: Files>(&mut self, files: &mut F) -> Step
         requires running { self.old.state ≡ NodeState.Running }
         requires opened { IsSome ((F.shows files.old).outputs self.old.file) }
-        ensures fits { SinkFits (writes_of (F.shows files.old) self.old.file) self.old
-            → SinkFits (writes_of (F.shows files.new) self.new.file) self.new }
+        ensures fits { SinkFits (log_of (F.shows files.old) self.old.file) self.old
+            → SinkFits (log_of (F.shows files.new) self.new.file) self.new }
         ensures unended { IsUnended self.old → IsUnended self.new }
         ensures says { SinkSays self.old self.new result }
+        ensures idle { IsIdle result (out_of (F.shows files.new) self.new.file) }
         ensures goes_on { SinkGoesOn self.old self.new }
         ensures own { WritesOnly self.old.file (F.shows files.old) (F.shows files.new) }
         ensures failures { (F.shows files.new).failures
             ≡ failures_after self.old.state self.new.state (F.shows files.old).failures }
     {
+        if self.settle_out(files) {
+            self.take_next(files)
+        } else {
+            Step::Failed
+        }
+    }
+
+    // Waits until all that is out is written. Returns false if a write failed. Then the sink has failed.
+    fn settle_out<F: Files>(&mut self, files: &mut F) -> bool
+        requires running { self.old.state ≡ NodeState.Running }
+        requires opened { IsSome ((F.shows files.old).outputs self.old.file) }
+        ensures all { IsTrue result → SettlesAll (log_of (F.shows files.old) self.old.file)
+            (log_of (F.shows files.new) self.old.file) }
+        ensures some { IsFalse result → SettlesSome (log_of (F.shows files.old) self.old.file)
+            (log_of (F.shows files.new) self.old.file) }
+        ensures state { self.new ≡ record self.old { state = state_settled result } }
+        ensures own { WritesOnly self.old.file (F.shows files.old) (F.shows files.new) }
+        ensures failures { (F.shows files.new).failures
+            ≡ failures_after NodeState.Running self.new.state (F.shows files.old).failures }
+    {
+        match files.settle(self.file) {
+            Ok(batch) => {
+                self.reuse(batch);
+                true
+            }
+            Err(IoFailed) => {
+                self.state = NodeState::Failed(NodeFault::WriteFault);
+                false
+            }
+        }
+    }
+
+    // Takes what is next in the pipe, and writes it or hands it over, if nothing is out.
+    fn take_next<F: Files>(&mut self, files: &mut F) -> Step
+        requires running { self.old.state ≡ NodeState.Running }
+        requires opened { IsSome ((F.shows files.old).outputs self.old.file) }
+        requires settled { out_of (F.shows files.old) self.old.file ≡ [] }
+        ensures told { TakesNext self.old self.new result (log_of (F.shows files.old) self.old.file)
+            (log_of (F.shows files.new) self.old.file) }
+        ensures state { self.new
+            ≡ record self.old { end = self.new.end; state = state_next result } }
+        ensures own { WritesOnly self.old.file (F.shows files.old) (F.shows files.new) }
+        ensures failures { (F.shows files.new).failures
+            ≡ failures_after NodeState.Running self.new.state (F.shows files.old).failures }
+    {
         match self.end.take() {
-            Some(item) => self.write_from(item, files),
+            Some(Item::Bytes(piece)) => {
+                let batch = self.gather(piece);
+                self.pass_on(batch, files)
+            }
+            Some(Item::Close) => self.finish(files),
             None => Step::Waits(self.pipe),
         }
     }
 
-    // Writes an item that it has taken, with the short pieces that come after it and are there.
-    fn write_from<F: Files>(&mut self, item: Item, files: &mut F) -> Step
+    // Joins short pieces that come next to this one, which was taken, if it is short.
+    fn gather(&mut self, first: Piece) -> Batch
+        ensures took { (start : Reading) → Took start self.old.end first false
+            → Took start self.new.end (batch_bytes result) false }
+        ensures same { self.new ≡ record self.old { end = self.new.end } }
+    {
+        if !is_short(first.len(), 0, self.room) {
+            return Batch::Single(first);
+        }
+        let unused = Vec::new(*self.joined.allocator());
+        let mut joined = mem::replace(&mut self.joined, unused);
+        joined.clear();
+        if joined.extend_from_slice(first.bytes()).is_err() {
+            return Batch::Single(first);
+        }
+        join_short(&mut self.end, self.room, &mut joined);
+        Batch::Joined(joined)
+    }
+
+    // Hands bytes over that it has taken, or writes them.
+    fn pass_on<F: Files>(&mut self, batch: Batch, files: &mut F) -> Step
         requires running { self.old.state ≡ NodeState.Running }
         requires opened { IsSome ((F.shows files.old).outputs self.old.file) }
-        ensures fits { (start : Reading) → Took start self.old.end (item_bytes item) (is_last item)
-            → SinkFits (writes_of (F.shows files.old) self.old.file) (record self.old { end = start })
-            → SinkFits (writes_of (F.shows files.new) self.new.file) self.new }
-        ensures unended { (start : Reading) → Took start self.old.end (item_bytes item) (is_last item)
-            → IsUnended (record self.old { end = start }) → IsUnended self.new }
-        ensures says { (start : Reading) → Took start self.old.end (item_bytes item) (is_last item)
-            → SinkSays (record self.old { end = start }) self.new result }
-        ensures goes_on { (start : Reading) → Took start self.old.end (item_bytes item) (is_last item)
-            → SinkGoesOn (record self.old { end = start }) self.new }
+        requires settled { out_of (F.shows files.old) self.old.file ≡ [] }
+        ensures told { PassesOn (batch_bytes batch) result
+            (log_of (F.shows files.old) self.old.file)
+            (log_of (F.shows files.new) self.old.file) }
+        ensures state { self.new ≡ record self.old { state = state_after result } }
         ensures own { WritesOnly self.old.file (F.shows files.old) (F.shows files.new) }
         ensures failures { (F.shows files.new).failures
-            ≡ failures_after self.old.state self.new.state (F.shows files.old).failures }
+            ≡ failures_after NodeState.Running self.new.state (F.shows files.old).failures }
     {
-        self.joined.clear();
-        let rest = join_short(&mut self.end, item, self.room, &mut self.joined);
-        match write_all(self.file, self.joined.as_slice(), files) {
-            Ok(()) => self.write_rest(rest, files),
+        match files.hand_over(self.file, batch) {
+            Ok(()) => Step::Moved,
+            Err(batch) => self.write(batch, files),
+        }
+    }
+
+    // Writes bytes that it has taken.
+    fn write<F: Files>(&mut self, batch: Batch, files: &mut F) -> Step
+        requires running { self.old.state ≡ NodeState.Running }
+        requires opened { IsSome ((F.shows files.old).outputs self.old.file) }
+        requires settled { out_of (F.shows files.old) self.old.file ≡ [] }
+        ensures told { PassesOn (batch_bytes batch) result
+            (log_of (F.shows files.old) self.old.file)
+            (log_of (F.shows files.new) self.old.file) }
+        ensures state { self.new ≡ record self.old { state = state_after result } }
+        ensures own { WritesOnly self.old.file (F.shows files.old) (F.shows files.new) }
+        ensures failures { (F.shows files.new).failures
+            ≡ failures_after NodeState.Running self.new.state (F.shows files.old).failures }
+    {
+        let written = write_all(self.file, batch.bytes(), files);
+        self.reuse(Some(batch));
+        match written {
+            Ok(()) => Step::Moved,
             Err(IoFailed) => {
                 self.state = NodeState::Failed(NodeFault::WriteFault);
                 Step::Failed
@@ -194,21 +291,12 @@ impl Sink {
         }
     }
 
-    // Writes the item that was taken last, if it is not written yet, or ends the output.
-    fn write_rest<F: Files>(&mut self, rest: Option<Item>, files: &mut F) -> Step
-        requires running { self.old.state ≡ NodeState.Running }
-        requires opened { IsSome ((F.shows files.old).outputs self.old.file) }
-        ensures told { WritesRest rest result (writes_of (F.shows files.old) self.old.file)
-            (writes_of (F.shows files.new) self.old.file) }
-        ensures state { self.new ≡ record self.old { state = state_after result } }
-        ensures own { WritesOnly self.old.file (F.shows files.old) (F.shows files.new) }
-        ensures failures { (F.shows files.new).failures
-            ≡ failures_after NodeState.Running self.new.state (F.shows files.old).failures }
+    // Keeps the room of joined bytes, for others.
+    fn reuse(&mut self, batch: Option<Batch>)
+        ensures { self.new ≡ self.old }
     {
-        match rest {
-            Some(Item::Bytes(piece)) => self.write(&piece, files),
-            Some(Item::Close) => self.finish(files),
-            None => Step::Moved,
+        if let Some(Batch::Joined(bytes)) = batch {
+            self.joined = bytes;
         }
     }
 
@@ -216,8 +304,8 @@ impl Sink {
     fn finish<F: Files>(&mut self, files: &mut F) -> Step
         requires running { self.old.state ≡ NodeState.Running }
         requires opened { IsSome ((F.shows files.old).outputs self.old.file) }
-        ensures told { writes_of (F.shows files.new) self.old.file
-            ≡ writes_of (F.shows files.old) self.old.file }
+        ensures told { log_of (F.shows files.new) self.old.file
+            ≡ log_of (F.shows files.old) self.old.file }
         ensures state { self.new ≡ record self.old { state = state_finished result } }
         ensures says { IsFinishAnswer result }
         ensures own { WritesOnly self.old.file (F.shows files.old) (F.shows files.new) }
@@ -229,27 +317,6 @@ impl Sink {
                 self.state = NodeState::Ended;
                 Step::Ended
             }
-            Err(IoFailed) => {
-                self.state = NodeState::Failed(NodeFault::WriteFault);
-                Step::Failed
-            }
-        }
-    }
-
-    // Writes a piece that it has taken.
-    fn write<F: Files>(&mut self, piece: &Piece, files: &mut F) -> Step
-        requires running { self.old.state ≡ NodeState.Running }
-        requires opened { IsSome ((F.shows files.old).outputs self.old.file) }
-        ensures told { Writes piece.now result (writes_of (F.shows files.old) self.old.file)
-            (writes_of (F.shows files.new) self.old.file) }
-        ensures state { self.new ≡ record self.old { state = state_written result } }
-        ensures says { IsWriteAnswer result }
-        ensures own { WritesOnly self.old.file (F.shows files.old) (F.shows files.new) }
-        ensures failures { (F.shows files.new).failures
-            ≡ failures_after NodeState.Running self.new.state (F.shows files.old).failures }
-    {
-        match write_all(self.file, piece.bytes(), files) {
-            Ok(()) => Step::Moved,
             Err(IoFailed) => {
                 self.state = NodeState::Failed(NodeFault::WriteFault);
                 Step::Failed

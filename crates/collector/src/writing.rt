@@ -1,6 +1,6 @@
 ghost use Rattle.std.specs.Prelude.{◌≡◌, ◌≤◌, ◌++◌, ℕ, List, IsSome, IsTrue, OnOk, OnErr};
 ghost use mathlib.Core.List.{IsPrefix};
-ghost use Rattle.collector.specs.Files.{writes_of, WritesOnly, one_more};
+ghost use Rattle.collector.specs.Files.{out_of, writes_of, WritesOnly, one_more};
 
 use crate::opening::{Files, IoFailed};
 
@@ -12,6 +12,7 @@ pub fn write_all<F: Files>(file: usize, bytes: &[u8], files: &mut F) -> Result<(
     ensures err { OnErr result
         ((front : List ℕ) × IsPrefix front bytes.now
         × (writes_of (F.shows files.new) file ≡ writes_of (F.shows files.old) file ++ front)) }
+    ensures out { out_of (F.shows files.new) file ≡ out_of (F.shows files.old) file }
     ensures only { WritesOnly file (F.shows files.old) (F.shows files.new) }
     ensures failed { OnErr result
         ((F.shows files.new).failures ≡ one_more (F.shows files.old).failures) }

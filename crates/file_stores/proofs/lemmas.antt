@@ -7,6 +7,7 @@ pub mod Numbers
 pub mod Places
 pub mod Ends
 pub mod PlacedLaws
+pub mod Settled
 pub mod Takings
 pub mod Limits
 pub mod Tries

@@ -10,7 +10,7 @@ use crate::mounts::Mounts;
 use crate::patient::{HostReader, Nap, Patient};
 use crate::streams::StandardStreams;
 use crate::writable::Stores;
-use collector::{Files, IoFailed, NeededEnd, NotOpened, Opening, Readiness};
+use collector::{Batch, Files, IoFailed, NeededEnd, NotOpened, Opening, Readiness};
 use input::{HostInput, add_reading, ask_each, opened, wait_here};
 use machine::NoMemory;
 use output::{
@@ -266,6 +266,11 @@ impl<R: HostHandle, I: Inputs<HostReader<R>>> Files for HostFiles<R, I> {
             }
             Err(error) => Err(self.fail_write(is_standard, error)),
         }
+    }
+
+    #[tactic(auto, using(crate::proofs::lemmas::Settled::host_out, crate::proofs::lemmas::Settled::host_settles, crate::proofs::lemmas::Settled::host_stays))]
+    fn settle(&mut self, _file: usize) -> Result<Option<Batch>, IoFailed> {
+        Ok(None)
     }
 
     fn finish_output(&mut self, file: usize) -> Result<(), IoFailed> {

@@ -12,7 +12,7 @@ use crate::calls::Calls;
 use crate::contents::Contents;
 use crate::former::{former_of, put_in};
 use crate::opened::{OpenInput, OpenOutput, target_at};
-use collector::{Files, IoFailed, NeededEnd, NotOpened, Opening, Readiness};
+use collector::{Batch, Files, IoFailed, NeededEnd, NotOpened, Opening, Readiness};
 use command_words::Word;
 use machine::NoMemory;
 use run_types::{InName, OutName, Placing};
@@ -398,7 +398,7 @@ impl Files for MemoryFiles {
     ghost use Rattle.std.specs.Prelude.{false};
     ghost use Rattle.collector.specs.InputEnds.{LeavesOut, LeavesRest};
     ghost use Rattle.collector.specs.Places.{BeginsOutputs, PutsInPlace, LeavesOutputs};
-    ghost use Rattle.collector.specs.Files.{FilesShown, reads_of, writes_of, SameFiles, OpensInput, OpensOutput, OpensDestination, OpensHeld, Refuses, OpensNothing, ReadsOnly, WritesOnly, Reads};
+    ghost use Rattle.collector.specs.Files.{FilesShown, out_of, reads_of, writes_of, SameFiles, OpensInput, OpensOutput, OpensDestination, OpensHeld, Refuses, OpensNothing, ReadsOnly, WritesOnly, Reads};
     ghost use Rattle.file_stores.specs.inner.Memory.{shown_files, ReadsInMemory, WritesInMemory};
 
     ghost contents_known = { true };
@@ -531,6 +531,8 @@ impl Files for MemoryFiles {
         ensures told { IfOk result
             (λ n. writes_of (shown_files self.new) file
             ≡ writes_of (shown_files self.old) file ++ take n from.now) }
+        ensures free { IsOk result → out_of (shown_files self.old) file ≡ [] }
+        ensures out { out_of (shown_files self.new) file ≡ out_of (shown_files self.old) file }
         ensures failed { OnErr result
             (SameFiles (shown_files self.old) (shown_files self.new)
             × ((shown_files self.new).failures ≡ one_more (shown_files self.old).failures)) }
@@ -541,6 +543,11 @@ impl Files for MemoryFiles {
         ensures written { WritesInMemory file result from.now self.old self.new }
     {
         self.write_content(file, from)
+    }
+
+    #[tactic(auto, using(crate::proofs::lemmas::Settled::memory_out, crate::proofs::lemmas::Settled::memory_settles, crate::proofs::lemmas::Settled::memory_stays))]
+    fn settle(&mut self, _file: usize) -> Result<Option<Batch>, IoFailed> {
+        Ok(None)
     }
 
     fn failures(&self) -> u64

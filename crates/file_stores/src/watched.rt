@@ -1,6 +1,6 @@
 ghost use Rattle.std.specs.Prelude.{◌≡◌};
 
-use collector::{Files, IoFailed, NeededEnd, NotOpened, Readiness};
+use collector::{Batch, Files, IoFailed, NeededEnd, NotOpened, Readiness};
 use machine::NoMemory;
 use run_types::{InName, OutName, Placing};
 use std::marker::Model;
@@ -218,6 +218,14 @@ impl<F: Files, W: Watch> Files for Watched<F, W> {
             note_write(&mut self.watch, is_standard, from, count);
         }
         written
+    }
+
+    fn hand_over(&mut self, file: usize, batch: Batch) -> Result<(), Batch> {
+        self.inside.hand_over(file, batch)
+    }
+
+    fn settle(&mut self, file: usize) -> Result<Option<Batch>, IoFailed> {
+        self.inside.settle(file)
     }
 
     fn finish_output(&mut self, file: usize) -> Result<(), IoFailed> {

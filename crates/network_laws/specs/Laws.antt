@@ -1,5 +1,5 @@
 -- What is so of every lawful state, of every forest and of every stuck state.
-use Rattle.std.specs.Prelude.{◌≡◌, ℕ, true, List, Option, Some}
+use Rattle.std.specs.Prelude.{◌≡◌, ℕ, true, List, [], ◌++◌, Option, Some}
 use mathlib.Core.List.{IsPrefix}
 use Rattle.machine.specs.Whole.{inputs_of, status_of, WholeAnswer}
 use Rattle.bounded_pipe.specs.Pipes.{bytes_put, is_closed}
@@ -34,13 +34,15 @@ EachPipeIsDetermined = (s : Setup) (st : State) (run : Run) (contents : Contents
     (p : ℕ) → IsPipe s.graph p → IsPrefix (bytes_put (st.writing p)) (answer s.graph contents p)
     × (is_closed (st.writing p) ≡ true → bytes_put (st.writing p) ≡ answer s.graph contents p)
 
--- each sink has written a prefix of the list of its pipe, and that list if it has ended
+-- What each sink has written, with what is out, is a prefix of the list of its pipe. If it has
+-- ended, that list is written, and nothing is out.
 abbrev pub EachOutputIsDetermined : Type 0
 EachOutputIsDetermined = (s : Setup) (st : State) (run : Run) (contents : Contents)
     → IsPlan s.graph → IsLawful s st → HasReads st run → HasWrites st run → Agree s run contents →
     (k p : ℕ) → node_at s.graph k ≡ Some Sink → Reads s.graph k p
-    → IsPrefix (run.written k) (answer s.graph contents p)
-    × (node_state_of (st.part k) ≡ Ended → run.written k ≡ answer s.graph contents p)
+    → IsPrefix (run.written k ++ run.out k) (answer s.graph contents p)
+    × (node_state_of (st.part k) ≡ Ended
+    → (run.written k ≡ answer s.graph contents p) × (run.out k ≡ []))
 
 -- in every lawful state each output is a prefix of its list
 abbrev pub LawfulOutputsBegin : Type 0

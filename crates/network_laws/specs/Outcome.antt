@@ -2,8 +2,8 @@
 --
 -- A run's contents are what the reads of its files would give (POSIX.1-2017 XSH read); an operand
 -- that cannot be opened is missing (XCU 1.4, CONSEQUENCES OF ERRORS).
-use Rattle.std.specs.Prelude.{◌≡◌, ℕ, ◌-◌, ◌^◌, ◌<◌, ◌⊎◌, Bool, true, false, List, [], ◌∷◌, map}
-use Rattle.std.specs.Prelude.{Option, Some, None, Contains, if◌then◌else◌}
+use Rattle.std.specs.Prelude.{◌≡◌, ℕ, ◌-◌, ◌^◌, ◌<◌, ◌⊎◌, Bool, true, false, List, [], ◌∷◌}
+use Rattle.std.specs.Prelude.{◌++◌, map, Option, Some, None, Contains, if◌then◌else◌}
 use Rattle.std.specs.List.{AllByRecursion}
 use mathlib.Core.List.{IsPrefix}
 use Rattle.graphs.specs.Graph.{Graph, GraphNode, Source, Stage, Sink, node_at, writer, reader}
@@ -40,8 +40,9 @@ pub record Run : Type 0 where
   -- what the reads of each source gave, by the node's number, and whether a read gave the end
   pub read : ℕ → List ℕ
   pub at_end : ℕ → Bool
-  -- what the writes of each sink took
+  -- what the writes of each sink took, and what it has still to write
   pub written : ℕ → List ℕ
+  pub out : ℕ → List ℕ
   -- how many reads and writes had failed when the call began, and when it returned
   pub failures_before : ℕ
   pub failures : ℕ
@@ -67,31 +68,31 @@ HasRead (OfSource x) read at_end = (x.read ≡ read) × (x.at_end ≡ at_end)
 HasRead (OfStage x) read at_end = Unit {0}
 HasRead (OfSink x) read at_end = Unit {0}
 
--- this node, if it is a sink, has written this
-abbrev pub HasWritten : Part → List ℕ → Type 0
-HasWritten (OfSource x) written = Unit {0}
-HasWritten (OfStage x) written = Unit {0}
-HasWritten (OfSink x) written = x.written ≡ written
+-- this node, if it is a sink, has written this, and has still to write that
+abbrev pub HasWritten : Part → List ℕ → List ℕ → Type 0
+HasWritten (OfSource x) written out = Unit {0}
+HasWritten (OfStage x) written out = Unit {0}
+HasWritten (OfSink x) written out = (x.written ≡ written) × (x.held ≡ out)
 
 -- the sources of this state have read what the run's reads gave
 abbrev pub HasReads : State → Run → Type 0
 HasReads st run = (k : ℕ) → HasRead (st.part k) (run.read k) (run.at_end k)
 
--- its sinks have written what the run's writes took
+-- its sinks have written what the run's writes took, and have still to write what is out
 abbrev pub HasWrites : State → Run → Type 0
-HasWrites st run = (k : ℕ) → HasWritten (st.part k) (run.written k)
+HasWrites st run = (k : ℕ) → HasWritten (st.part k) (run.written k) (run.out k)
 
--- each output is its list in the sequential answer
+-- each output is its list in the sequential answer, and nothing is out
 abbrev pub OutputsAre : Setup → Run → Contents → Type 0
 OutputsAre s run contents = (k p : ℕ) → node_at s.graph k ≡ Some Sink → Reads s.graph k p
-    → run.written k ≡ answer s.graph contents p
+    → (run.written k ≡ answer s.graph contents p) × (run.out k ≡ [])
 
--- each output is a prefix of its list in the sequential answer
+-- each output, also with what is out after it, is a prefix of its list in the sequential answer
 abbrev pub OutputsBegin : Setup → Run → Contents → Type 0
 OutputsBegin s run contents = (k p : ℕ) → node_at s.graph k ≡ Some Sink → Reads s.graph k p
-    → IsPrefix (run.written k) (answer s.graph contents p)
+    → IsPrefix (run.written k ++ run.out k) (answer s.graph contents p)
 
--- each output is a prefix, for all contents that agree
+-- each output is such a prefix, for all contents that agree
 abbrev pub EachOutputBegins : Setup → Run → Type 0
 EachOutputBegins s run = (contents : Contents) → Agree s run contents → OutputsBegin s run contents
 

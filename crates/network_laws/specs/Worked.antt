@@ -270,6 +270,7 @@ stall_run =
       read = stall_read;
       at_end = λ k. false;
       written = λ k. [];
+      out = λ k. [];
       failures_before = 0;
       failures = 0;
       faults_before = [];

@@ -8,8 +8,8 @@ use Rattle.std.proofs.lemmas.Bool.{cases_eq}
 use Rattle.std.proofs.lemmas.Slice.Zip.{AllZip-long}
 use Rattle.machine.specs.Law.{Shown}
 use Rattle.bounded_pipe.specs.Ends.{Writing, Reading, WritesOn, ReadsOn}
-use Rattle.collector.specs.Files.{FilesShown, ReadLog, SameLogs, WritesOnly, writes_of}
-use Rattle.collector.specs.Files.{nothing_read}
+use Rattle.collector.specs.Files.{FilesShown, ReadLog, WriteLog, SameLogs, WritesOnly, log_of}
+use Rattle.collector.specs.Files.{nothing_read, nothing_written}
 use Rattle.collector.specs.Nodes.{SourceFits, SinkFits, ReadsOwn, read_by}
 use Rattle.run_types.specs.declared.step.Step.{Step}
 use Rattle.graphs.specs.Graph.{GraphNode}
@@ -177,7 +177,7 @@ module _ {M : Type 0} where
     for_output : (a b : Actor M) → Acts shows a b old new st → (file : ℕ)
         → IsSome (old.outputs file) → IsSome (new.outputs file)
     for_output (an.Source x) (an.Source z) h file open_ =
-        subst (λ (o : Option (List ℕ)). IsSome o)
+        subst (λ (o : Option WriteLog). IsSome o)
         (sym (own_outputs x.file old new h.own file)) open_
     for_output (an.Stage t) (an.Stage u) h file open_ =
         subst (λ (f : FilesShown). IsSome (f.outputs file)) (sym h.1) open_
@@ -185,7 +185,7 @@ module _ {M : Type 0} where
         let own = h.own in
         ⊎_elim
         (λ e. subst (λ (i : ℕ). IsSome (new.outputs i)) (sym e) own.still)
-        (λ ne. subst (λ (o : Option (List ℕ)). IsSome o) (sym (own.outputs file ne)) open_)
+        (λ ne. subst (λ (o : Option WriteLog). IsSome o) (sym (own.outputs file ne)) open_)
         (cases_eq file y.file)
     for_output a b h file open_ = absurd h
 
@@ -245,14 +245,14 @@ module _ {M : Type 0} where
 
     pub same_written : (a b c : Actor M) → Acts shows a b old new st
         → ((file : ℕ) → out_file a ≡ Some file → out_file c ≡ Some file → ⊥) → (file : ℕ)
-        → out_file c ≡ Some file → writes_of new file ≡ writes_of old file
+        → out_file c ≡ Some file → log_of new file ≡ log_of old file
     same_written (an.Source x) (an.Source z) c h apart file e =
-        ap (λ (o : Option (List ℕ)). unwrap_or o []) (own_outputs x.file old new h.own file)
+        ap (λ (o : Option WriteLog). unwrap_or o nothing_written) (own_outputs x.file old new h.own file)
     same_written (an.Stage t) (an.Stage u) c h apart file e =
-        ap (λ (f : FilesShown). writes_of f file) h.1
+        ap (λ (f : FilesShown). log_of f file) h.1
     same_written (an.Sink y) (an.Sink z) c h apart file e =
         let own = h.own in
-        ap (λ (o : Option (List ℕ)). unwrap_or o [])
+        ap (λ (o : Option WriteLog). unwrap_or o nothing_written)
         (own.outputs file (λ same. apart file (ap (λ (i : ℕ). Some i) (sym same)) e))
     same_written a b c h apart file e = absurd h
 
@@ -267,5 +267,5 @@ module _ {M : Type 0} where
         (sym (same_read a b (an.Source x) h ins)) fits) block
     other_fits a b _ h ins outs s k _ (FitsStage i o case block) = FitsStage i o case block
     other_fits a b _ h ins outs s k _ (FitsSink {y} fits unended) =
-        FitsSink (subst (λ (written : List ℕ). SinkFits written y)
+        FitsSink (subst (λ (log : WriteLog). SinkFits log y)
         (sym (same_written a b (an.Sink y) h outs y.file refl)) fits) unended

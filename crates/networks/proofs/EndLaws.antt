@@ -50,7 +50,8 @@ use Rattle.networks.specs.Networks.{setup_status, rooms, FitsSource, FitsStage, 
 use Rattle.networks.specs.Turns.{OutcomeIs, Reaches, AreSteps, AllDone, EndsIn, GrowsIfStuck}
 use Rattle.networks.specs.Turns.{GrowsNext, NoneFailed, NoneMoved, HasMoved, IsFaultOf}
 use Rattle.networks.specs.Turns.{HasFileFault, FaultsAreTrue, IsNoStall, NamesWaits, IsStallOf}
-use Rattle.networks.specs.Turns.{faults_below, input_names, output_names, written_by, run_of}
+use Rattle.networks.specs.Turns.{faults_below, input_names, output_names, written_by, out_by}
+use Rattle.networks.specs.Turns.{run_of}
 use Rattle.networks.specs.Turns.{waits_from}
 use Rattle.networks.proofs.lemmas.Lawful.{is_lawful}
 use Rattle.networks.proofs.StateLaws.{pipe_count, link_is}
@@ -132,9 +133,10 @@ module _ {M : Type 0} (shows : M → Shown) (s : Setup) (files : FilesShown) whe
   has_read k o a (FitsSink fits unended) = tt
 
   has_written : (a : Actor M) → HasWritten (part_of shows files a) (written_by files (out_file a))
+      (out_by files (out_file a))
   has_written (an.Source x) = tt
   has_written (an.Stage t) = tt
-  has_written (an.Sink y) = refl
+  has_written (an.Sink y) = (refl, refl)
   has_written an.Lent = tt
 
   -- a stage of the network is one of the graph

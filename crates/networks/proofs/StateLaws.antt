@@ -6,7 +6,7 @@ use Rattle.std.proofs.lemmas.Option.{slice_get-get_or, slice_get_within}
 use Rattle.machine.specs.Law.{Shown}
 use Rattle.bounded_pipe.specs.Ends.{Writing, Reading, WritesOn, ReadsOn}
 use Rattle.bounded_pipe.specs.Events.{SameWriting, SameReading}
-use Rattle.collector.specs.Files.{FilesShown, ReadLog}
+use Rattle.collector.specs.Files.{FilesShown, ReadLog, WriteLog}
 use Rattle.collector.specs.Nodes.{SourceShown, SinkShown, source_part, sink_part, failures_after}
 use Rattle.run_types.specs.declared.step.Step.{Step}
 use Rattle.run_types.specs.declared.node_state.NodeState.{NodeState}
@@ -133,7 +133,7 @@ module _ {M : Type 0} where
         (same_read shows old new st a b (an.Source x) h ins)
     same_part a b (an.Stage t) h ins outs = refl
     same_part a b (an.Sink y) h ins outs =
-        ap (λ (written : List ℕ). OfSink (sink_part written y))
+        ap (λ (log : WriteLog). OfSink (sink_part log y))
         (same_written shows old new st a b (an.Sink y) h outs y.file refl)
     same_part a b an.Lent h ins outs = refl
 

@@ -11,7 +11,7 @@ use Rattle.machine.specs.Law.{Shown}
 use Rattle.machine.specs.declared.piece.Item.{Item}
 use Rattle.bounded_pipe.specs.Ends.{Writing, Reading, Beside}
 use Rattle.bounded_pipe.specs.Events.{SameWriting, SameReading, StillWriting, StillReading}
-use Rattle.collector.specs.Files.{FilesShown, ReadLog, writes_of}
+use Rattle.collector.specs.Files.{FilesShown, ReadLog, WriteLog, log_of}
 use Rattle.collector.specs.Nodes.{SourceShown, SinkShown, SourceFits, SinkFits, IsUnended, read_by}
 use Rattle.collector.specs.Sources.{SourcePart, SinkPart, SourceKeeps, SourceCase, SinkKeeps}
 use Rattle.collector.specs.Sources.{SinkCase, held_bytes}
@@ -79,11 +79,11 @@ sink_case_same : (x : SinkPart) (state : NodeState) (r q : Reading) → q.taken 
 sink_case_same x Running r q e f c = sink_same x r q e f c
 sink_case_same x Ended r q e f c = (sink_same x r q e f c.0, ap has_close e ∙ c.1, c.2)
 sink_case_same x Broken r q e f c = c
-sink_case_same x (Failed fault) r q e f c = (c.0, c.1 ∙ sym (ap bytes_of e))
+sink_case_same x (Failed fault) r q e f c = ((c.0.0, c.0.1 ∙ sym (ap bytes_of e)), c.1)
 
-pub sink_looked : (written : List ℕ) (x : SinkShown) (q : Reading) → StillReading x.end q
-    → SinkFits written x → SinkFits written (record x { end = q })
-sink_looked written x q s f = sink_case_same _ x.state x.end q s.taken s.hung_up f
+pub sink_looked : (log : WriteLog) (x : SinkShown) (q : Reading) → StillReading x.end q
+    → SinkFits log x → SinkFits log (record x { end = q })
+sink_looked log x q s f = sink_case_same _ x.state x.end q s.taken s.hung_up f
 
 unended_looked : (y : SinkShown) (end : Reading) → StillReading y.end end → IsUnended y
     → IsUnended (record y { end = end })
@@ -166,7 +166,7 @@ module _ {M : Type 0} where
       → FitsAt shows s files k node (an.Sink y)
       → FitsAt shows s files k node (an.Sink (record y { end = e }))
   sink_fits y e same shows s files k _ (FitsSink fits unended) =
-      FitsSink (sink_looked (writes_of files y.file) y e same fits)
+      FitsSink (sink_looked (log_of files y.file) y e same fits)
       (unended_looked y e same unended)
 
   outs_with_out : (a : Actor M) (b : ℕ) (e : Writing)

@@ -12,7 +12,7 @@ use Rattle.std.specs.Option.{ForSome}
 use Rattle.machine.specs.Law.{Shown}
 use Rattle.machine.specs.Whole.{status_of, inputs_of, WholeAnswer}
 use Rattle.bounded_pipe.specs.Ends.{Writing, Reading, AreEnds, Beside}
-use Rattle.collector.specs.Files.{FilesShown, SameFiles, WritesOnly, TouchesOnly, writes_of}
+use Rattle.collector.specs.Files.{FilesShown, SameFiles, WritesOnly, TouchesOnly, log_of}
 use Rattle.run_types.specs.declared.names.InName.{InName}
 use Rattle.run_types.specs.declared.names.OutName.{OutName}
 use Rattle.collector.specs.Nodes.{SourceFits, SinkFits, IsUnended, ReadsOwn, read_by, source_part}
@@ -92,7 +92,7 @@ module _ {M : Type 0} where
   abbrev pub part_of : (M → Shown) → FilesShown → Actor M → Part
   part_of shows files (an.Source x) = OfSource (source_part (read_by files x.file).bytes x)
   part_of shows files (an.Stage t) = OfStage (part shows t)
-  part_of shows files (an.Sink y) = OfSink (sink_part (writes_of files y.file) y)
+  part_of shows files (an.Sink y) = OfSink (sink_part (log_of files y.file) y)
   part_of shows files an.Lent = OfSource new_source
 
   -- the state that these nodes make up, if their files show this
@@ -316,7 +316,7 @@ module _ {M : Type 0} where
         → t.inlet.pipes ≡ inputs → t.outlet.pipes ≡ present branches
         → InCase shows (answer_of filter (told s inputs)) t → t.outlet.block ≡ s.block
         → FitsAt shows s files k (Some (Stage filter inputs branches)) (an.Stage t)
-    FitsSink : {y : SinkShown} → SinkFits (writes_of files y.file) y → IsUnended y
+    FitsSink : {y : SinkShown} → SinkFits (log_of files y.file) y → IsUnended y
         → FitsAt shows s files k (Some Sink) (an.Sink y)
 
   -- the tables are those of the graph

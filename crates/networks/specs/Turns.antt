@@ -4,7 +4,7 @@ use Rattle.std.specs.Prelude.{◌∷◌, ◌++◌, length, map, count_by, true, 
 use Rattle.std.specs.Prelude.{slice_index_or, Option, Some, None, Result, Ok, Err, IfOk}
 use Rattle.std.specs.List.{AllByRecursion}
 use Rattle.machine.specs.Law.{Shown}
-use Rattle.collector.specs.Files.{FilesShown, writes_of}
+use Rattle.collector.specs.Files.{FilesShown, out_of, writes_of}
 use Rattle.collector.specs.Nodes.{read_by}
 use Rattle.collector.specs.declared.fault.RunFault.{RunFault}
 use Rattle.collector.specs.declared.fault.RunFault.TheVariants as named
@@ -189,6 +189,11 @@ abbrev pub written_by : FilesShown → Option ℕ → List ℕ
 written_by files None = []
 written_by files (Some file) = writes_of files file
 
+-- what was handed over to be written to a node's file, and may not be written yet
+abbrev pub out_by : FilesShown → Option ℕ → List ℕ
+out_by files None = []
+out_by files (Some file) = out_of files file
+
 module _ {M : Type 0} where
   -- each node has ended or broken; no node has failed
   abbrev pub AllDone : Networked M → Type 0
@@ -234,13 +239,15 @@ module _ {M : Type 0} where
   output_names n k = out_name (actor_at n.nodes k)
 
   -- What a run shows whose network is now this one, and whose files are these: what the reads of
-  -- each source's file gave, what the writes of each sink's file took, and how many have failed;
+  -- each source's file gave, what the writes of each sink's file took and what is out, and how many
+  -- have failed;
   -- `before` had failed when it began, with these faults.
   abbrev pub run_of : Networked M → FilesShown → ℕ → List is.FaultByNode → Run
   run_of n files before faults = record {
     read = λ k. (read_by files (in_file (actor_at n.nodes k))).bytes;
     at_end = λ k. (read_by files (in_file (actor_at n.nodes k))).at_end;
     written = λ k. written_by files (out_file (actor_at n.nodes k));
+    out = λ k. out_by files (out_file (actor_at n.nodes k));
     failures_before = before;
     failures = files.failures;
     faults_before = faults;

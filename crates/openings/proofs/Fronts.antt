@@ -1,6 +1,5 @@
 -- What is left of an input that a head alone reads.
 use Rattle.std.proofs.Common.{◌≡◌, ℕ, List, ap, ◌∙◌, refl, subst, inl, inr, Some}
-use Rattle.std.specs.List.{slice_get}
 use Rattle.machine.specs.FrontLines.{first_lines}
 use Rattle.planner.specs.Planned.{Planned}
 use Rattle.openings.specs.Needs.{IsEndLeft, IsFrontLeft, IsLeftFor, IsReadByHead, TakesFirst}

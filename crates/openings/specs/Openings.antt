@@ -8,8 +8,8 @@ use Rattle.std.specs.Prelude.{◌≡◌, ◌≢◌, ℕ, ◌<◌, ◌≤◌, ◌
 use Rattle.std.specs.Prelude.{◌++◌, length, map, Option, Some, None, IfSome, Result, Ok, Err}
 use Rattle.std.specs.List.{slice_get}
 use Rattle.std.specs.Option.{option_to_list}
-use Rattle.collector.specs.Files.{FilesShown, ReadLog, nothing_read, SameLogs, SameContents}
-use Rattle.collector.specs.Files.{SamePlaces}
+use Rattle.collector.specs.Files.{FilesShown, ReadLog, WriteLog, nothing_read, nothing_written}
+use Rattle.collector.specs.Files.{SameLogs, SameContents, SamePlaces}
 use Rattle.collector.specs.Files.{OpensInput, OpensOutput, OpensNothing, Refuses}
 use Rattle.collector.specs.declared.names.Opening.{Opening}
 use Rattle.collector.specs.declared.names.Opening.TheVariants.{Input, Output}
@@ -81,7 +81,7 @@ pub record OpensFirst (plan : Planned) (inputs : List (Option ℕ)) (outputs : L
   pub operands : (place : ℕ) → slice_get inputs place ≡ Some None → IsOperandAt plan.inputs place
   pub refused : IfSome last (IsRefused plan inputs outputs)
   pub input_logs : AreOpened nothing_read (answer_at inputs) old.inputs new.inputs
-  pub output_logs : AreOpened [] (slice_get outputs) old.outputs new.outputs
+  pub output_logs : AreOpened nothing_written (slice_get outputs) old.outputs new.outputs
   pub standard_input : new.standard_input ≡ old.standard_input
   pub held : OthersKeep (answer_at inputs) old.held new.held
   pub failures : new.failures ≡ old.failures
@@ -90,7 +90,7 @@ pub record OpensFirst (plan : Planned) (inputs : List (Option ℕ)) (outputs : L
 -- What was open before has the log that it had, and what such an input held is as it was.
 pub record KeepsLogs (old new : FilesShown) : Type 0 where
   pub inputs : (file : ℕ) (log : ReadLog) → old.inputs file ≡ Some log → new.inputs file ≡ Some log
-  pub outputs : (file : ℕ) (log : List ℕ) → old.outputs file ≡ Some log
+  pub outputs : (file : ℕ) (log : WriteLog) → old.outputs file ≡ Some log
       → new.outputs file ≡ Some log
   pub held : (file : ℕ) (log : ReadLog) → old.inputs file ≡ Some log
       → new.held file ≡ old.held file

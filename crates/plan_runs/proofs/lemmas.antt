@@ -7,5 +7,6 @@ pub mod LeftLaws
 pub mod PlaceLaws
 pub mod RoundLaws
 pub mod RunLaws
+pub mod SettleLaws
 pub mod PlacingLaws
 pub mod TurnLaws

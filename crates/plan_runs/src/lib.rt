@@ -10,3 +10,4 @@ mod in_turn;
 mod placing;
 mod rounds;
 mod run;
+mod settling;

@@ -8,11 +8,12 @@ ghost use Rattle.openings.specs.Openings.{OpensAll, output_names};
 ghost use Rattle.planner.specs.Planned.{graph_of};
 ghost use Rattle.step_scheduler.specs.Setups.{IsOfScript};
 ghost use Rattle.plan_runs.specs.Contents.{AnswersFiles, HoldsOutputs, LeavesRests};
-ghost use Rattle.plan_runs.specs.Runs.{RunsPlanTo, TouchesPlan};
+ghost use Rattle.plan_runs.specs.Runs.{IsSettled, RunsPlanTo, TouchesPlan};
 ghost use Rattle.plan_runs.specs.Placings.{HasAllInPlace, IsFinished, LeavesAnswer, RunsAndPlaces};
 
 use crate::fitting::groups_for;
 use crate::placing::{names_of, place_or_leave};
+use crate::settling::settle_failed;
 use collector::Readiness;
 use machine::Machine;
 use network_laws::Outcome;
@@ -39,7 +40,8 @@ pub struct RanPlan {
 
 /// Runs a plan, whose files were opened: its stages on as many threads as the settings allow, its sources and sinks on the
 /// caller's. It waits for its workers, and its promise holds if it returns. Outputs that are held back are put in place if the run
-/// finished, and left otherwise. Of an input that a head alone reads, no more is taken than its lines.
+/// finished, and left otherwise. Of an input that a head alone reads, no more is taken than its lines. If a fault ends it, it waits until
+/// all that was handed over to its outputs is written, or a write of it failed.
 pub fn run_plan<R: Threads + Wait + Sync, G: Gate, F: Readiness>(
     rt: &R,
     alloc: Global,
@@ -70,6 +72,7 @@ pub fn run_plan<R: Threads + Wait + Sync, G: Gate, F: Readiness>(
         → OpensAll plan.now opened.now before (F.shows files.old)
         → HoldsInputs plan.now opened.now.inputs before (F.shows files.old)
         → LeavesRests plan.now opened.now before (F.shows files.new) }
+    ensures settled { IsSettled plan.now opened.now (F.shows files.new) }
     ensures sound { IsSound result.outcome
         → (F.shows files.new).failures ≡ (F.shows files.old).failures }
 {
@@ -77,7 +80,7 @@ pub fn run_plan<R: Threads + Wait + Sync, G: Gate, F: Readiness>(
     let RanPlan {
         outcome,
         statistics,
-    } = run_to_end(rt, alloc, plan, opened, &mut names, files, settings, gate);
+    } = run_and_settle(rt, alloc, plan, opened, &mut names, files, settings, gate);
     RanPlan {
         outcome: place_or_leave(plan, names, opened, outcome, files),
         statistics,
@@ -85,6 +88,42 @@ pub fn run_plan<R: Threads + Wait + Sync, G: Gate, F: Readiness>(
 }
 
 // The same, but outputs that are held back stay so. If the run finishes, `names` are those of its outputs.
+fn run_and_settle<R: Threads + Wait + Sync, G: Gate, F: Readiness>(
+    rt: &R,
+    alloc: Global,
+    plan: &Plan,
+    opened: &Opened,
+    names: &mut Vec<OutName>,
+    files: &mut F,
+    settings: Settings,
+    gate: &G,
+) -> RanPlan
+    requires plan { IsOfScript plan.now }
+    requires opened { (before : FilesShown)
+        × OpensAll plan.now opened.now before (F.shows files.old) }
+    ensures outcome { RunsPlanTo plan.now opened.now settings (F.shows files.old)
+        (F.shows files.new) result.outcome }
+    ensures flows { IsForest (graph_of plan.now) → IsNoStall result.outcome }
+    ensures names { IsFinished result.outcome → names.new.items ≡ output_names plan.now.outputs }
+    ensures touches { TouchesPlan plan.now opened.now (F.shows files.old) (F.shows files.new) }
+    ensures holds { (before : FilesShown) → OpensAll plan.now opened.now before (F.shows files.old)
+        → OpensDestinations plan.now.outputs opened.now.outputs before (F.shows files.old)
+        → HoldsOutputs plan.now opened.now before (F.shows files.new) }
+    ensures answers { (before : FilesShown)
+        → OpensAll plan.now opened.now before (F.shows files.old)
+        → OpensDestinations plan.now.outputs opened.now.outputs before (F.shows files.old)
+        → HoldsInputs plan.now opened.now.inputs before (F.shows files.old)
+        → AnswersFiles plan.now opened.now before (F.shows files.new) result.outcome }
+    ensures settled { IsSettled plan.now opened.now (F.shows files.new) }
+    ensures sound { IsSound result.outcome
+        → (F.shows files.new).failures ≡ (F.shows files.old).failures }
+{
+    let ran = run_to_end(rt, alloc, plan, opened, names, files, settings, gate);
+    settle_failed(plan, opened, &ran.outcome, files);
+    ran
+}
+
+// The same, but if the run has met a fault, what its sinks have handed over may still be out.
 fn run_to_end<R: Threads + Wait + Sync, G: Gate, F: Readiness>(
     rt: &R,
     alloc: Global,

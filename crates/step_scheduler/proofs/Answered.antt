@@ -7,7 +7,7 @@ use Rattle.std.proofs.lemmas.Bool.{eqb-true, eq-eqb}
 use Rattle.std.proofs.lemmas.List.{length-map}
 use Rattle.std.proofs.lemmas.Option.{none-some, same_Some, slice_get-map, slice_get_within}
 use Rattle.std.proofs.lemmas.Option.{slice_get-get_or}
-use Rattle.collector.specs.Files.{FilesShown, nothing_read}
+use Rattle.collector.specs.Files.{FilesShown, nothing_read, nothing_written}
 use Rattle.run_types.specs.declared.names.InName.{InName}
 use Rattle.run_types.specs.declared.names.OutName.{OutName}
 use Rattle.planner.specs.declared.plan.InOpening.{InOpening}
@@ -235,7 +235,7 @@ module _ (plan : Planned) (o : OpenedFiles) (old new : FilesShown) (own : HasOwn
 
   -- nothing was written to it
   pub sink_fresh : (k file : ℕ) (name : OutName) → slice_get plan.nodes k ≡ Some (node.Sink name)
-      → own_file o k ≡ Some file → new.outputs file ≡ Some []
+      → own_file o k ≡ Some file → new.outputs file ≡ Some nothing_written
   sink_fresh k file name e is =
       let w = written_at k name e in
       let opens = all.opens in

@@ -1,8 +1,7 @@
 -- What a reader took, item by item.
-use Rattle.std.proofs.Common.{◌≡◌, ◌<◌, ℕ, Bool, false, ◌||◌, List, ◌++◌, Option, Some, None}
-use Rattle.std.proofs.Common.{is_some, length, if◌then◌else◌, sym, ap, ◌∙◌, arith, subst}
+use Rattle.std.proofs.Common.{◌<◌, ℕ, Bool, false, ◌||◌, List, ◌++◌}
+use Rattle.std.proofs.Common.{length, if◌then◌else◌, sym, ap, ◌∙◌, arith}
 use Rattle.std.proofs.Common.{append_assoc, append-nil}
-use Rattle.std.proofs.lemmas.Bool.{false≢true}
 use Rattle.std.proofs.lemmas.List.{length_push}
 use Rattle.machine.specs.Items.{bytes_of, has_close}
 use Rattle.machine.specs.declared.piece.Item.{Item}
@@ -11,7 +10,7 @@ use Rattle.bounded_pipe.specs.Ends.{Reading, ReadsOn}
 use Rattle.bounded_pipe.specs.Events.{Takes, SameReading}
 use Rattle.bounded_pipe.specs.Pipes.{bytes_taken, events_of_reading}
 use Rattle.bounded_pipe.proofs.Records.{reads_on_transitive}
-use Rattle.collector.specs.inner.Joins.{Took, item_bytes, is_last, rest_bytes, rest_is_last}
+use Rattle.collector.specs.inner.Joins.{Took, item_bytes, is_last}
 use Rattle.collector.proofs.lemmas.Items.{bytes_of-piece, bytes_of-close, has_close-close}
 use Rattle.collector.proofs.lemmas.Items.{has_close-piece}
 
@@ -69,18 +68,3 @@ took_same a b c bytes last before same on = record {
       let marks = ap {B = ℕ} (λ (h : Bool). if h then 1 else 0) same.hung_up in
       omega (arith, first, taken, marks));
 }
-
--- if nothing is left to be joined, only the joined bytes were taken
-pub took_all : (a b : Reading) (bytes : List ℕ) (rest : Option Item) → is_some rest ≡ false
-    → Took a b (bytes ++ rest_bytes rest) (rest_is_last rest) → Took a b bytes false
-took_all a b bytes None none took = subst (λ (l : List ℕ). Took a b l false) (append-nil bytes) took
-took_all a b bytes (Some item) none took = absurd (false≢true (sym none))
-
--- an item was joined, or is the rest
-pub took_with : (a b : Reading) (before now : List ℕ) (item : Item) (rest : Option Item)
-    → now ++ rest_bytes rest ≡ before ++ item_bytes item → rest_is_last rest ≡ is_last item
-    → Took a b (before ++ item_bytes item) (is_last item)
-    → Took a b (now ++ rest_bytes rest) (rest_is_last rest)
-took_with a b before now item rest bytes last took =
-    subst (λ (h : Bool). Took a b (now ++ rest_bytes rest) h) (sym last)
-    (subst (λ (l : List ℕ). Took a b l (is_last item)) (sym bytes) took)

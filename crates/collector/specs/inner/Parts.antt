@@ -1,5 +1,5 @@
 -- What the parts of a step do: the words of the contracts that are not public.
-use Rattle.std.specs.Prelude.{◌≡◌, ℕ, length, Bool, true, not, ◌&&◌, List, ◌++◌, Option, Some, None}
+use Rattle.std.specs.Prelude.{◌≡◌, ℕ, length, Bool, true, false, not, ◌&&◌, List, ◌++◌, Option, Some, None}
 use Rattle.std.specs.Prelude.{is_some, is_none, Result, Ok, Err}
 use mathlib.Core.List.{IsPrefix}
 use Rattle.machine.specs.declared.piece.Item.{Item}
@@ -84,23 +84,10 @@ OffersClose old new steps.Ended = Puts Close old.end new.end × (new ≡ record 
 OffersClose old new steps.Broken = ⊥
 OffersClose old new steps.Failed = ⊥
 
--- all of the piece was written, or some of its first bytes
-abbrev pub Writes : List ℕ → Step → List ℕ → List ℕ → Type 0
-Writes piece steps.Moved old new = new ≡ old ++ piece
-Writes piece _ old new = (front : List ℕ) × IsPrefix front piece × (new ≡ old ++ front)
-
--- the state of a sink once it has written, or failed
-abbrev pub state_written : Step → NodeState
-state_written steps.Moved = states.Running
-state_written _ = states.Failed faults.WriteFault
-
--- it has written all, or failed
-abbrev pub IsWriteAnswer : Step → Type 0
-IsWriteAnswer steps.Moved = Unit {0}
-IsWriteAnswer (steps.Waits pipe) = ⊥
-IsWriteAnswer steps.Ended = ⊥
-IsWriteAnswer steps.Broken = ⊥
-IsWriteAnswer steps.Failed = Unit {0}
+-- the state of a sink that has settled, or failed to
+abbrev pub state_settled : Bool → NodeState
+state_settled true = states.Running
+state_settled false = states.Failed faults.WriteFault
 
 -- the state of a sink once its output is ended, or that has failed
 abbrev pub state_finished : Step → NodeState

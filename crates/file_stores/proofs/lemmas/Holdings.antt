@@ -7,7 +7,7 @@ use Rattle.std.specs.Prelude.{slice_set, slice_get, min, if◌then◌else◌}
 use Rattle.std.specs.Option.{option_map}
 use Rattle.collector.specs.Files.{ReadLog, nothing_read, Reads, ReadsGoOn, ReadsOnly, ReadOnInHeld}
 use Rattle.collector.specs.Files.{SameHeld, OpensHeld, OpensDestination, WritesOnly, content_for}
-use Rattle.collector.specs.Files.{reads_of, writes_of, left_of, one_more}
+use Rattle.collector.specs.Files.{WriteLog, nothing_written, reads_of, writes_of, left_of, one_more}
 use Rattle.collector.specs.declared.needed.LeftOut.{LeftOut}
 use Rattle.collector.specs.declared.needed.LeftOut.TheVariants.{Nothing}
 use Rattle.collector.specs.declared.opening.IoFailed.{IoFailed}
@@ -19,6 +19,7 @@ use Rattle.run_types.specs.declared.names.OutName.{OutName}
 use Rattle.run_types.specs.declared.names.OutName.TheVariants as out_names
 use Rattle.run_types.specs.Destinations.{Destination, StandardOutput, FileOf}
 use Rattle.file_stores.specs.inner.Opened.{OpenedInput, OpenedOutput, read_log, read_on, IsWithin}
+use Rattle.file_stores.specs.inner.Opened.{written_log}
 use Rattle.file_stores.specs.inner.Counts.{one_call}
 use Rattle.file_stores.specs.inner.Memory.{Stored, MemoryShown, content_of, held_by, held_with}
 use Rattle.file_stores.specs.inner.Memory.{destination_to, target_of, shown_files, open_input}
@@ -133,15 +134,15 @@ module _ (file : ℕ) (bytes : List ℕ) (old : MemoryShown) (contents' : List S
   }
 
   log_before : writes_of (shown_files old) file ≡ own.taken
-  log_before = ap (λ (l : Option (List ℕ)). unwrap_or l [])
-      (log_at (λ (o : OpenedOutput). o.taken) old.outputs file
+  log_before = ap (λ (l : Option WriteLog). (unwrap_or l nothing_written).bytes)
+      (log_at (λ (o : OpenedOutput). written_log o.taken) old.outputs file
       (record { target = None; taken = [] }) within)
 
-  now_taken : (shown_files later).outputs file ≡ Some (own.taken ++ bytes)
-  now_taken = log_set (λ (o : OpenedOutput). o.taken) old.outputs file grown within
+  now_taken : (shown_files later).outputs file ≡ Some (written_log (own.taken ++ bytes))
+  now_taken = log_set (λ (o : OpenedOutput). written_log o.taken) old.outputs file grown within
 
   log_later : writes_of (shown_files later) file ≡ writes_of (shown_files old) file ++ bytes
-  log_later = ap (λ (l : Option (List ℕ)). unwrap_or l []) now_taken
+  log_later = ap (λ (l : Option WriteLog). (unwrap_or l nothing_written).bytes) now_taken
       ∙ ap (λ (l : List ℕ). l ++ bytes) (sym log_before)
 
   target_before : (shown_files old).targets file ≡ Some (destination_to own.target)
@@ -183,7 +184,7 @@ module _ (file : ℕ) (bytes : List ℕ) (old : MemoryShown) (contents' : List S
   writes_later = (
     record {
       openings = refl;
-      still = subst (λ (l : Option (List ℕ)). IsSome l) (sym now_taken) refl;
+      still = subst (λ (l : Option WriteLog). IsSome l) (sym now_taken) refl;
       grows = record {
         more = bytes;
         log = log_later;
@@ -193,7 +194,7 @@ module _ (file : ℕ) (bytes : List ℕ) (old : MemoryShown) (contents' : List S
             (subst (λ (x : Destination). held_by old x ≡ Some held) e was));
       };
       inputs = λ k. refl;
-      outputs = λ k ne. log_set_others (λ (o : OpenedOutput). o.taken) old.outputs file grown k ne;
+      outputs = λ k ne. log_set_others (λ (o : OpenedOutput). written_log o.taken) old.outputs file grown k ne;
       targets = targets_are;
       held = record { standard_input = refl; held = λ k. refl; left_out = λ k. refl };
       others = λ d ne. other_held own.target d grows
@@ -240,13 +241,13 @@ write_failed : (file : ℕ) (old new : MemoryShown) → IsSome ((shown_files old
     WritesOnly file (shown_files old) (shown_files new)
 write_failed file old new open_ contents input output openings inputs outputs former =
     let took : (k : ℕ) → (shown_files new).outputs k ≡ (shown_files old).outputs k =
-    λ k. ap (λ (l : List OpenedOutput). option_map (λ (o : OpenedOutput). o.taken)
+    λ k. ap (λ (l : List OpenedOutput). option_map (λ (o : OpenedOutput). written_log o.taken)
     (slice_get l k)) outputs in
     record {
       openings = openings;
-      still = subst (λ (l : Option (List ℕ)). IsSome l) (sym (took file)) open_;
+      still = subst (λ (l : Option WriteLog). IsSome l) (sym (took file)) open_;
       grows = grows_none file (shown_files old) (shown_files new)
-          (ap (λ (l : Option (List ℕ)). unwrap_or l []) (took file))
+          (ap (λ (l : Option WriteLog). (unwrap_or l nothing_written).bytes) (took file))
           (λ d t. same_held old new contents output d);
       inputs = λ k. ap (λ (l : List OpenedInput). option_map read_log (slice_get l k)) inputs;
       outputs = λ k ne. took k;
@@ -324,7 +325,7 @@ read_leaves file old new on held in_held still others contents output openings o
       still = still;
       goes_on = on;
       inputs = others;
-      outputs = λ k. ap (λ (l : List OpenedOutput). option_map (λ (o : OpenedOutput). o.taken)
+      outputs = λ k. ap (λ (l : List OpenedOutput). option_map (λ (o : OpenedOutput). written_log o.taken)
           (slice_get l k)) outputs;
       contents = record {
         targets = λ k. ap (λ (l : List OpenedOutput). option_map

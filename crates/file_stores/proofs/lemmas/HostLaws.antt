@@ -4,32 +4,14 @@ use Rattle.std.proofs.Common.{Option, Some, IsSome, unwrap_or, refl, sym, ap, �
 use Rattle.std.specs.Prelude.{slice_get}
 use Rattle.std.proofs.lemmas.Option.{slice_get-get_or}
 use Rattle.collector.specs.Files.{FilesShown, ReadLog, nothing_read, Reads, ReadsOnly, WritesOnly}
-use Rattle.collector.specs.Files.{SameContents, reads_of, writes_of}
+use Rattle.collector.specs.Files.{SameContents, WriteLog, nothing_written, reads_of, writes_of}
 use Rattle.collector.specs.declared.needed.LeftOut.{LeftOut}
 use Rattle.collector.specs.declared.needed.LeftOut.TheVariants.{Nothing}
 use Rattle.file_stores.specs.inner.Host.{HostInputShown, HostShown, shown_host}
+use Rattle.file_stores.specs.inner.Opened.{written_log}
 use Rattle.file_stores.proofs.lemmas.Holdings.{reads_go_on}
 use Rattle.file_stores.proofs.lemmas.Numbers.{log_at, log_set, log_set_others, log_set_same}
 use Rattle.file_stores.proofs.lemmas.Numbers.{log_within}
-
-module _ {L : Type 0} where
-  at_set : (xs : List L) (k : ℕ) (x : L) → k < length xs → slice_get (set xs k x) k ≡ Some x
-  at_set [] k x h = absurd (omega arith)
-  at_set (y ∷ xs) zero x h = refl
-  at_set (y ∷ xs) (suc k) x h = at_set xs k x (omega arith)
-
-  at_others : (xs : List L) (k : ℕ) (x : L) (j : ℕ) → j ≢ k
-      → slice_get (set xs k x) j ≡ slice_get xs j
-  at_others [] k x j ne = refl
-  at_others (y ∷ xs) zero x zero ne = absurd (ne refl)
-  at_others (y ∷ xs) zero x (suc j) ne = refl
-  at_others (y ∷ xs) (suc k) x zero ne = refl
-  at_others (y ∷ xs) (suc k) x (suc j) ne = at_others xs k x j (λ e. ne (ap suc e))
-
-  within : (xs : List L) (k : ℕ) → IsSome (slice_get xs k) → k < length xs
-  within [] k s = absurd (cc s)
-  within (y ∷ xs) zero s = omega arith
-  within (y ∷ xs) (suc k) s = let h = within xs k s in omega arith
 
 module _ (file : ℕ) (held old new : HostShown) (is : held ≡ old) where
   module _ (was now : HostInputShown) (opened : IsSome ((shown_host old).inputs file))
@@ -88,42 +70,45 @@ module _ (file : ℕ) (held old new : HostShown) (is : held ≡ old) where
           (reads_of (shown_host new) file) (host_told room given r);
       inputs = λ k ne. ap (λ (h : HostShown). (shown_host h).inputs k) reads_after
           ∙ log_set_others (λ (i : HostInputShown). i.log) old.inputs file now k ne;
-      outputs = λ k. ap (λ (h : HostShown). slice_get h.outputs k) reads_after;
+      outputs = λ k. ap (λ (h : HostShown). (shown_host h).outputs k) reads_after;
       contents = same_contents;
       held = record { standard_input = refl; held = λ k. refl; left_out = same_left kept };
       reads = λ content is was. cc;
     }
 
-  module _ (own was now more : List ℕ) (opened : IsSome (slice_get old.outputs file))
+  module _ (own was now more : List ℕ) (opened : IsSome ((shown_host old).outputs file))
       (shows : own ≡ was) (log : was ≡ get_or held.outputs file was)
       (after : new ≡ record held { outputs = set held.outputs file now })
       (told : now ≡ own ++ more) where
     writes_after : new ≡ record old { outputs = set old.outputs file now }
     writes_after = after ∙ ap (λ (h : HostShown). record h { outputs = set h.outputs file now }) is
 
+    open_at : file < length old.outputs
+    open_at = log_within written_log old.outputs file opened
+
     taken_is : own ≡ get_or old.outputs file was
     taken_is = shows ∙ subst (λ (h : HostShown). was ≡ get_or h.outputs file was) is log
 
     taken_before : writes_of (shown_host old) file ≡ own
-    taken_before = ap (λ (o : Option (List ℕ)). unwrap_or o [])
-        (slice_get-get_or old.outputs file was (within old.outputs file opened)) ∙ sym taken_is
+    taken_before = ap (λ (o : Option WriteLog). (unwrap_or o nothing_written).bytes)
+        (log_at written_log old.outputs file was open_at) ∙ sym taken_is
 
-    taken_at : slice_get new.outputs file ≡ Some now
-    taken_at = ap (λ (h : HostShown). slice_get h.outputs file) writes_after
-        ∙ at_set old.outputs file now (within old.outputs file opened)
+    taken_at : (shown_host new).outputs file ≡ Some (written_log now)
+    taken_at = ap (λ (h : HostShown). (shown_host h).outputs file) writes_after
+        ∙ log_set written_log old.outputs file now open_at
 
     pub host_took : writes_of (shown_host new) file ≡ writes_of (shown_host old) file ++ more
-    host_took = ap (λ (o : Option (List ℕ)). unwrap_or o []) taken_at ∙ told
+    host_took = ap (λ (o : Option WriteLog). (unwrap_or o nothing_written).bytes) taken_at ∙ told
         ∙ ap (λ (l : List ℕ). l ++ more) (sym taken_before)
 
     pub host_writes : WritesOnly file (shown_host old) (shown_host new)
     host_writes = record {
       openings = ap (λ (h : HostShown). h.openings) writes_after;
-      still = subst (λ (o : Option (List ℕ)). IsSome o) (sym taken_at) refl;
+      still = subst (λ (o : Option WriteLog). IsSome o) (sym taken_at) refl;
       grows = record { more = more; log = host_took; content = λ d held t was. cc };
       inputs = λ k. ap (λ (h : HostShown). (shown_host h).inputs k) writes_after;
-      outputs = λ k ne. ap (λ (h : HostShown). slice_get h.outputs k) writes_after
-          ∙ at_others old.outputs file now k ne;
+      outputs = λ k ne. ap (λ (h : HostShown). (shown_host h).outputs k) writes_after
+          ∙ log_set_others written_log old.outputs file now k ne;
       targets = λ k. refl;
       held = record {
         standard_input = refl;

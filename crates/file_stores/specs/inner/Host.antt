@@ -6,6 +6,7 @@ use Rattle.collector.specs.Files.{FilesShown, ReadLog, nothing_read}
 use Rattle.collector.specs.declared.needed.LeftOut.{LeftOut}
 use Rattle.collector.specs.declared.needed.LeftOut.TheVariants.{Nothing}
 use Rattle.collector.specs.declared.names.Opening.{Opening}
+use Rattle.file_stores.specs.inner.Opened.{written_log}
 
 -- an open input: what its reads returned, and whether a front of it was left out
 pub record HostInputShown : Type 0 where
@@ -30,7 +31,7 @@ abbrev pub shown_host : HostShown → FilesShown
 shown_host h = record {
   openings = h.openings;
   inputs = λ file. option_map (λ i. i.log) (slice_get h.inputs file);
-  outputs = λ file. slice_get h.outputs file;
+  outputs = λ file. option_map written_log (slice_get h.outputs file);
   targets = λ file. None;
   contents = λ d. None;
   standard_input = None;

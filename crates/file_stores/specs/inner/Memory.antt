@@ -21,6 +21,7 @@ use Rattle.collector.specs.declared.needed.NeededEnd.{NeededEnd}
 use Rattle.file_stores.specs.declared.calls.Calls.{Calls}
 use Rattle.file_stores.specs.inner.Ends.{end_of}
 use Rattle.file_stores.specs.inner.Opened.{OpenedInput, OpenedOutput, read_log, read_count, read_on}
+use Rattle.file_stores.specs.inner.Opened.{written_log}
 use Rattle.file_stores.specs.inner.Counts.{one_call, is_failing}
 
 -- a file: its name, and what it holds
@@ -72,7 +73,7 @@ abbrev pub shown_files : MemoryShown → FilesShown
 shown_files m = record {
   openings = m.openings;
   inputs = λ file. option_map read_log (slice_get m.inputs file);
-  outputs = λ file. option_map (λ o. o.taken) (slice_get m.outputs file);
+  outputs = λ file. option_map (λ o. written_log o.taken) (slice_get m.outputs file);
   targets = λ file. option_map (λ o. destination_to o.target) (slice_get m.outputs file);
   contents = held_by m;
   standard_input = Some m.input;

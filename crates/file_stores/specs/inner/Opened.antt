@@ -3,8 +3,8 @@
 -- A read returns the bytes from the end of the last one on, as many as there are and there is room
 -- for, and none at the end (POSIX.1-2017 XSH read).
 use Rattle.std.specs.Prelude.{ℕ, ◌+◌, ◌-◌, ◌==◌, ◌||◌, ◌&&◌, ◌≡◌, ◌≤◌, true, nat_lt, min, Bool}
-use Rattle.std.specs.Prelude.{List, length, take, slice_get, option_and_then, Option}
-use Rattle.collector.specs.Files.{ReadLog}
+use Rattle.std.specs.Prelude.{List, [], length, take, slice_get, option_and_then, Option}
+use Rattle.collector.specs.Files.{ReadLog, WriteLog}
 use Rattle.collector.specs.declared.needed.LeftOut.{LeftOut}
 
 -- an input that was opened: what its file held then, without a front that was left out; how much of
@@ -24,6 +24,10 @@ pub record OpenedOutput : Type 0 where
 -- what the reads of an open input gave: the first bytes of what it held when it was opened
 abbrev pub read_log : OpenedInput → ReadLog
 read_log i = record { bytes = take i.at i.content; at_end = i.at_end }
+
+-- these bytes were written, and nothing is out
+abbrev pub written_log : List ℕ → WriteLog
+written_log bytes = record { bytes = bytes; out = [] }
 
 -- how many bytes a read with this much room returns, if no read returns more than this
 abbrev pub read_count : OpenedInput → ℕ → ℕ → ℕ

@@ -1,7 +1,7 @@
 -- Determinacy, node by node in planned order.
 use Rattle.std.proofs.Common.{◌≡◌, ℕ, zero, suc, ◌+◌, ◌<◌, ◌||◌, ◌&&◌, Bool, true, false, List, []}
 use Rattle.std.proofs.Common.{◌++◌, length, map, Option, Some, None, is_none, refl, sym, ap, ◌∙◌}
-use Rattle.std.proofs.Common.{subst, ⊎_elim, append-nil, arith}
+use Rattle.std.proofs.Common.{subst, subst₂, ⊎_elim, append-nil, arith}
 use Rattle.std.specs.Option.{unwrap_or}
 use Rattle.std.specs.List.{concat}
 use Rattle.std.proofs.lemmas.Option.{slice_get-get_or}
@@ -252,8 +252,9 @@ module _ (s : Setup) (st : State) (run : Run) (contents : Contents) (plan : IsPl
       (let l : writer s.graph p < suc (writer s.graph p) = omega arith in l)
 
   sink_in_state : (p : ℕ) → IsPipe s.graph p → (x : SinkPart) (state : NodeState)
-      → SinkCase x state (st.reading p) → IsPrefix x.written (answer s.graph contents p)
-      × (state ≡ Ended → x.written ≡ answer s.graph contents p)
+      → SinkCase x state (st.reading p)
+      → IsPrefix (x.written ++ x.held) (answer s.graph contents p)
+      × (state ≡ Ended → (x.written ≡ answer s.graph contents p) × (x.held ≡ []))
   sink_in_state p is x state c = by_case state c
     where
       list : List ℕ
@@ -264,24 +265,33 @@ module _ (s : Setup) (st : State) (run : Run) (contents : Contents) (plan : IsPl
           (right p is)
 
       by_case : (state : NodeState) → SinkCase x state (st.reading p)
-          → IsPrefix x.written list × (state ≡ Ended → x.written ≡ list)
-      by_case Running d = (prefix_trans _ _ _ (x.held, d.bytes) begins, λ e. absurd (cc e))
+          → IsPrefix (x.written ++ x.held) list
+          × (state ≡ Ended → (x.written ≡ list) × (x.held ≡ []))
+      by_case Running d = (subst (λ l. IsPrefix l list) (sym d.bytes) begins, λ e. absurd (cc e))
       by_case Ended d = (
-        prefix_trans _ _ _ (x.held, d.0.bytes) begins,
-        λ e. sym (append-nil x.written) ∙ ap (λ l. x.written ++ l) (sym d.2) ∙ d.0.bytes
-            ∙ taken_whole s.block (st.writing p) (st.reading p) (lawful.pipes p is) list
-            (right p is) d.1,
+        subst (λ l. IsPrefix l list) (sym d.0.bytes) begins,
+        λ e. (
+          sym (append-nil x.written) ∙ ap (λ l. x.written ++ l) (sym d.2) ∙ d.0.bytes
+              ∙ taken_whole s.block (st.writing p) (st.reading p) (lawful.pipes p is) list
+              (right p is) d.1,
+          d.2,
+        ),
       )
       by_case Broken d = absurd d
-      by_case (Failed fault) d = (prefix_trans _ _ _ d begins, λ e. absurd (cc e))
+      by_case (Failed fault) d = (
+        subst (λ l. IsPrefix l list)
+            (sym (ap (λ l. x.written ++ l) d.1 ∙ append-nil x.written))
+            (prefix_trans _ _ _ d.0 begins),
+        λ e. absurd (cc e),
+      )
 
   sink_right : (k p : ℕ) → Reads s.graph k p → (part : Part) → NodeCase s st k (Some Sink) part
-      → (written : List ℕ) → HasWritten part written
-      → IsPrefix written (answer s.graph contents p)
-      × (node_state_of part ≡ Ended → written ≡ answer s.graph contents p)
-  sink_right k p r _ (CaseOfSink {x} c) written h =
-      subst (λ l. IsPrefix l (answer s.graph contents p)
-      × (x.state ≡ Ended → l ≡ answer s.graph contents p)) h
+      → (written out : List ℕ) → HasWritten part written out
+      → IsPrefix (written ++ out) (answer s.graph contents p)
+      × (node_state_of part ≡ Ended → (written ≡ answer s.graph contents p) × (out ≡ []))
+  sink_right k p r _ (CaseOfSink {x} c) written out h =
+      subst₂ (λ l m. IsPrefix (l ++ m) (answer s.graph contents p)
+      × (x.state ≡ Ended → (l ≡ answer s.graph contents p) × (m ≡ []))) h.0 h.1
       (sink_in_state p r.0 x x.state (c p r))
 
 pub pipes_determined : EachPipeIsDetermined
@@ -292,4 +302,5 @@ pipes_determined s st run contents plan lawful reads agree p is =
 pub outputs_determined : EachOutputIsDetermined
 outputs_determined s st run contents plan lawful reads writes agree k p e r =
     sink_right s st run contents plan lawful reads agree k p r (st.part k)
-    (subst (λ o. NodeCase s st k o (st.part k)) e (lawful.nodes k)) (run.written k) (writes k)
+    (subst (λ o. NodeCase s st k o (st.part k)) e (lawful.nodes k)) (run.written k) (run.out k)
+    (writes k)

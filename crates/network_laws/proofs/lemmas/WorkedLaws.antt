@@ -457,12 +457,12 @@ module _ (names : ℕ → PipeName) where
   stall_reads (suc (suc (suc zero))) = tt
   stall_reads (suc (suc (suc (suc k)))) = tt
 
-  stall_writes : (k : ℕ) → HasWritten (stall_part k) (stall_run.written k)
+  stall_writes : (k : ℕ) → HasWritten (stall_part k) (stall_run.written k) (stall_run.out k)
   stall_writes zero = tt
   stall_writes (suc zero) = tt
   stall_writes (suc (suc zero)) = tt
   stall_writes (suc (suc (suc zero))) = tt
-  stall_writes (suc (suc (suc (suc k)))) = refl
+  stall_writes (suc (suc (suc (suc k)))) = (refl, refl)
 
 pub worked_stall : WorkedStallIsTrue
 worked_stall names = (

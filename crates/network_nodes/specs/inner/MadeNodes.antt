@@ -11,7 +11,7 @@ use Rattle.machine.specs.Law.{Shown, IsNew as IsNewMachine}
 use Rattle.machine.specs.Whole.{inputs_of, WholeAnswer}
 use Rattle.machine.specs.declared.protocol.Presence.{Presence}
 use Rattle.bounded_pipe.specs.Ends.{Writing, Reading, Beside}
-use Rattle.collector.specs.Files.{nothing_read}
+use Rattle.collector.specs.Files.{nothing_read, nothing_written}
 use Rattle.collector.specs.Nodes.{SourceFits, SinkFits, IsUnended}
 use Rattle.run_types.specs.declared.node_state.NodeState.TheVariants as state
 use Rattle.stages.specs.Inlets.{IsNewInlet}
@@ -66,7 +66,7 @@ module _ {M : Type 0} where
       IsNewMachine (shows machine) whole presence
       → InCase shows (λ ys. whole (inputs_of presence ys)) t)
   IsNewActor shows block (pl.Sink file name) (an.Sink y) = (y.file ≡ file) × (y.name ≡ name)
-      × SinkFits [] y × IsUnended y × (y.state ≡ state.Running)
+      × SinkFits nothing_written y × IsUnended y × (y.state ≡ state.Running)
   IsNewActor shows block _ _ = ⊥
 
   -- a new node with these ends

@@ -17,7 +17,9 @@ use Rattle.bounded_pipe.specs.Pipes.{events_of_reading}
 use Rattle.collector.specs.Sources.{source_owes, held_size}
 use Rattle.collector.specs.Files.{FilesShown}
 use Rattle.collector.specs.Nodes.{SourceShown, SinkShown, SourceFits, SourceSays, SinkSays}
-use Rattle.collector.specs.Nodes.{SourceWaits, SinkWaits, IsUnended, IsFailedSource, read_by}
+use Rattle.collector.specs.Files.{out_of as still_out}
+use Rattle.collector.specs.Nodes.{SourceWaits, SinkWaits, IsUnended, IsIdle, IsFailedSource}
+use Rattle.collector.specs.Nodes.{read_by}
 use Rattle.collector.specs.Nodes.{source_part}
 use Rattle.run_types.specs.declared.node_state.NodeState.{NodeState}
 use Rattle.run_types.specs.declared.node_state.NodeState.TheVariants.{Running, Ended, Broken}
@@ -310,7 +312,7 @@ module _ {M : Type 0} (shows : M → Shown) (su : Setup) (k : ℕ) (n : Networke
 
   module _ (y z : SinkShown) (ea : actor_at n.nodes k ≡ an.Sink y) (eb : s.actor ≡ an.Sink z)
       (same : z.pipe ≡ y.pipe) (unended : IsUnended z)
-      (waits : (p : ℕ) → Reads su.graph k p → IsBareAt between p
+      (waits : still_out new z.file ≡ [] → (p : ℕ) → Reads su.graph k p → IsBareAt between p
       → WaitsFor su between k false p) where
     sink_pipe : slice_get (in_pipes (actor_at n.nodes k)) 0 ≡ Some y.pipe
     sink_pipe = ap (λ (a : Actor M). slice_get (in_pipes a) 0) ea
@@ -354,28 +356,30 @@ module _ {M : Type 0} (shows : M → Shown) (su : Setup) (k : ℕ) (n : Networke
           ∙ (in_link 0 y.pipe sink_pipe).2,
     )
 
-    sink_waits : SinkWaits y z y.pipe → StepIs su before between k (step.Waits y.pipe)
-    sink_waits w = (
+    sink_waits : still_out new z.file ≡ [] → SinkWaits y z y.pipe
+        → StepIs su before between k (step.Waits y.pipe)
+    sink_waits idle w = (
       was_in_state (an.Sink z) eb Running w.running,
       sink_still w.same,
       subst (λ (b : Bool). WaitsFor su between k b y.pipe) (sym (in_elsewhere 0 y.pipe sink_pipe))
-          (waits y.pipe sink_reads (sink_bare w)),
+          (waits idle y.pipe sink_reads (sink_bare w)),
     )
 
-    sink_is : (t : Step) → SinkSays y z t → StepIs su before between k t
-    sink_is step.Moved h = (
+    sink_is : (t : Step) → IsIdle t (still_out new z.file) → SinkSays y z t
+        → StepIs su before between k t
+    sink_is step.Moved idle h = (
       was_in_state (an.Sink z) eb Running h.0,
       in_event 0 y.pipe sink_pipe
           (subst₂ (λ (v w : Reading). events_of_reading v < events_of_reading w) (sym sink_before)
           (sym sink_after) h.1),
     )
-    sink_is (step.Waits p) w =
+    sink_is (step.Waits p) idle w =
         let here : p ≡ y.pipe = w.own ∙ same in
         subst (λ (q : ℕ). StepIs su before between k (step.Waits q)) (sym here)
-        (sink_waits (subst (SinkWaits y z) here w))
-    sink_is step.Ended h = was_in_state (an.Sink z) eb Ended h
-    sink_is step.Broken h = absurd h
-    sink_is step.Failed h = subst IsFailed (sym (was_in_state (an.Sink z) eb z.state refl ∙ h)) tt
+        (sink_waits idle (subst (SinkWaits y z) here w))
+    sink_is step.Ended idle h = was_in_state (an.Sink z) eb Ended h
+    sink_is step.Broken idle h = absurd h
+    sink_is step.Failed idle h = subst IsFailed (sym (was_in_state (an.Sink z) eb z.state refl ∙ h)) tt
 
   -- ---- a stage
 
@@ -580,8 +584,8 @@ module _ {M : Type 0} (shows : M → Shown) (su : Setup) (k : ℕ) (n : Networke
       st acts.0.state (acts.0.says (answer_of filter (told su inputs)) before_case)
   node_is _ (an.Sink y) (an.Sink z) e ea eb acts (FitsSink f u) (FitsSink fits unended) =
       sink_is y z ea eb (let q = acts.same in q.pipe) unended
-      (λ p own bare. empty_at (Some Sink) (an.Sink z) e eb p (SinkEmpty own refl bare)) st
-      acts.says
+      (λ idle p own bare. empty_at (Some Sink) (an.Sink z) e eb p (SinkEmpty own idle bare)) st
+      (acts.idle f) acts.says
   node_is _ a b e ea eb acts f f' = absurd acts
 
   pub step_is : StepIs su before (state_by shows later n.pipes new) k st

@@ -11,7 +11,7 @@ use Rattle.machine.specs.Items.{IsTidy}
 use Rattle.bounded_pipe.specs.Ends.{Writing, Reading}
 use Rattle.bounded_pipe.proofs.Records.{beside_consistent}
 use Rattle.bounded_pipe.specs.Pipes.{items_put, IsSound}
-use Rattle.collector.specs.Files.{FilesShown, writes_of}
+use Rattle.collector.specs.Files.{FilesShown, log_of}
 use Rattle.collector.specs.Nodes.{SourceShown, SinkShown, source_part, read_by, sink_part}
 use Rattle.collector.specs.Sources.{SourcePart, SourceCase, SinkCase}
 use Rattle.run_types.specs.declared.node_state.NodeState.{NodeState}
@@ -193,7 +193,7 @@ module _ {M : Type 0} (shows : M → Shown) (s : Setup) (n : Networked M) (files
         (subst (λ (m : ℕ). StageCase m (answer_of filter (told s inputs))
         (part shows t) t.state t.inlet.ends t.outlet.ends) block case))
     node_case k _ _ e f (FitsSink {y} fits unended) = CaseOfSink (λ p own.
-        subst (λ (q : Reading). SinkCase (sink_part (writes_of files y.file) y) y.state q)
+        subst (λ (q : Reading). SinkCase (sink_part (log_of files y.file) y) y.state q)
         (sym (sink_reading k p y f own)) fits)
 
     pipe_sound : (p : ℕ) → IsPipe s.graph p → IsSound s.block (st.writing p) (st.reading p)

@@ -12,7 +12,8 @@ use Rattle.std.specs.Global.{Vec}
 use Rattle.networks.proofs.lemmas.OwnLaws.{are_owned}
 use Rattle.machine.specs.Law.{Shown, IsLawful as ObeysLaw, IsNew as IsNewMachine}
 use Rattle.bounded_pipe.specs.Ends.{Writing, Reading, Beside}
-use Rattle.collector.specs.Files.{FilesShown, ReadLog, nothing_read, writes_of}
+use Rattle.collector.specs.Files.{FilesShown, ReadLog, WriteLog, nothing_read, nothing_written}
+use Rattle.collector.specs.Files.{log_of}
 use Rattle.collector.specs.Nodes.{SourceFits, SinkFits, read_by}
 use Rattle.collector.specs.Sources.{SourcePart, SinkPart}
 use Rattle.run_types.specs.declared.names.InName.{InName}
@@ -91,12 +92,12 @@ part_new state read at_end held a b c d =
     ∙ (ap (λ (v : Bool). mk Running [] v held) c
     ∙ ap (λ (v : Option (List ℕ)). mk Running [] false v) d))
 
-sink_new : (state : NodeState) (written : List ℕ) → state ≡ Running → written ≡ []
-    → record { state = state; held = []; written = written } ≡ new_sink
-sink_new state written a b =
-    let mk : NodeState → List ℕ → SinkPart =
-    λ st w. record { state = st; held = []; written = w } in
-    ap (λ (v : NodeState). mk v written) a ∙ ap (λ (v : List ℕ). mk Running v) b
+sink_new : (state : NodeState) (log : WriteLog) → state ≡ Running → log ≡ nothing_written
+    → record { state = state; held = log.out; written = log.bytes } ≡ new_sink
+sink_new state log a b =
+    let mk : NodeState → WriteLog → SinkPart =
+    λ st l. record { state = st; held = l.out; written = l.bytes } in
+    ap (λ (v : NodeState). mk v log) a ∙ ap (λ (v : WriteLog). mk Running v) b
 
 abbrev lent_node : (M : Type 0) → Actor M
 lent_node M = an.Lent
@@ -156,7 +157,7 @@ module _ {M : Type 0} (shows : M → Shown) (block : ℕ) where
     has_file (pl.Stage machine inputs branches) (an.Stage t) n f = tt
     has_file (pl.Sink file name) (an.Sink y) n f =
         subst (λ (k : ℕ). IsSome (files.outputs k)) (sym n.0)
-        (subst (λ (l : Option (List ℕ)). IsSome l) (sym f) refl)
+        (subst (λ (l : Option WriteLog). IsSome l) (sym f) refl)
     has_file _ _ n f = absurd n
 
     nothing_by : (file : Option (ℕ × InName)) (o : Option ℕ) → o ≡ option_map (λ f. f.0) file
@@ -165,9 +166,10 @@ module _ {M : Type 0} (shows : M → Shown) (block : ℕ) where
     nothing_by (Some file) o e f = ap (λ (p : Option ℕ). read_by files p) e
         ∙ ap (λ (l : Option ReadLog). unwrap_or l nothing_read) f
 
-    nothing_to : (file o : ℕ) → o ≡ file → files.outputs file ≡ Some [] → writes_of files o ≡ []
-    nothing_to file o e f = ap (λ (k : ℕ). writes_of files k) e
-        ∙ ap (λ (l : Option (List ℕ)). unwrap_or l []) f
+    nothing_to : (file o : ℕ) → o ≡ file → files.outputs file ≡ Some nothing_written
+        → log_of files o ≡ nothing_written
+    nothing_to file o e f = ap (λ (k : ℕ). log_of files k) e
+        ∙ ap (λ (l : Option WriteLog). unwrap_or l nothing_written) f
 
     missing_by : (file : Option (ℕ × InName)) → is_none (option_map (λ f. f.0) file) ≡ is_none file
     missing_by None = refl
@@ -188,7 +190,7 @@ module _ {M : Type 0} (shows : M → Shown) (block : ℕ) where
           FitsStage (i ∙ sym p.0) (o ∙ ap present (sym p.1)) (n.5 filter (told s given) p.2) (n.2
           ∙ same)
       fits_new _ (pl.Sink file name) (an.Sink y) wire o i n f PlannedSink =
-          FitsSink (subst (λ (l : List ℕ). SinkFits l y) (sym (nothing_to _ y.file n.0 f)) n.2) n.3
+          FitsSink (subst (λ (l : WriteLog). SinkFits l y) (sym (nothing_to _ y.file n.0 f)) n.2) n.3
       fits_new _ _ _ wire o i n f p = absurd n
 
       new_part : ((m : M) → ObeysLaw (shows m))
@@ -215,7 +217,7 @@ module _ {M : Type 0} (shows : M → Shown) (block : ℕ) where
             owed = u.owed;
           })
       new_part law _ (pl.Sink file name) (an.Sink y) wire o c n f PlannedSink =
-          NewPartOfSink (sink_new y.state (writes_of files y.file) n.4 (nothing_to _ y.file n.0 f))
+          NewPartOfSink (sink_new y.state (log_of files y.file) n.4 (nothing_to _ y.file n.0 f))
       new_part law _ _ _ wire o c n f p = absurd n
 
 -- ---- all nodes

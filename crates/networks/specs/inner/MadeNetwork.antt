@@ -6,7 +6,7 @@ use Rattle.machine.specs.Pieces.{IsBlock}
 use Rattle.machine.specs.Law.{Shown, IsNew as IsNewMachine}
 use Rattle.machine.specs.Whole.{WholeAnswer}
 use Rattle.bounded_pipe.specs.Ends.{IsCapacity, IsLimit}
-use Rattle.collector.specs.Files.{FilesShown, nothing_read}
+use Rattle.collector.specs.Files.{FilesShown, nothing_read, nothing_written}
 use Rattle.run_types.specs.declared.names.InName.{InName}
 use Rattle.run_types.specs.declared.names.OutName.{OutName}
 use Rattle.graphs.specs.Graph.{Graph, GraphNode, Source, Stage, Sink, IsPlan, node_at}
@@ -142,7 +142,7 @@ module _ {M : Type 0} where
   IsFresh files (pl.Source None) = Unit {0}
   IsFresh files (pl.Source (Some file)) = files.inputs file.0 ≡ Some nothing_read
   IsFresh files (pl.Stage machine inputs branches) = Unit {0}
-  IsFresh files (pl.Sink file name) = files.outputs file ≡ Some []
+  IsFresh files (pl.Sink file name) = files.outputs file ≡ Some nothing_written
 
   -- and so are those of all nodes
   abbrev pub AreFresh : FilesShown → List (NodeSpec M) → Type 0

@@ -5,7 +5,7 @@ use Rattle.std.specs.Prelude.{Bool, false, IfErr, IfSome, IsSome, Result}
 use Rattle.std.specs.List.{slice_get}
 use Rattle.std.proofs.lemmas.Bool.{false≢true}
 use Rattle.collector.specs.Files.{FilesShown, SameLogs, SameContents, OpensOutput, OpensDestination}
-use Rattle.collector.specs.Files.{left_of}
+use Rattle.collector.specs.Files.{WriteLog, left_of}
 use Rattle.collector.proofs.Logs.{places_none, places_on}
 use Rattle.collector.specs.declared.names.Opening.{Opening}
 use Rattle.collector.specs.declared.names.Opening.TheVariants.{Output}
@@ -74,7 +74,7 @@ pub destinations_still : (openings : List OutOpening) (files : List ℕ) (a b c 
     → OpensDestinations openings files a b → SameContents b c → SameLogs b.outputs c.outputs
     → OpensDestinations openings files a c
 destinations_still openings files a b c h same logs = record {
-  open_ = λ place file is. subst (λ (l : Option (List ℕ)). IsSome l) (sym (logs file))
+  open_ = λ place file is. subst (λ (l : Option WriteLog). IsSome l) (sym (logs file))
       (h.open_ place file is);
   targets = λ place file o is at. same.targets file ∙ h.targets place file o is at;
   contents = λ place o below at sole. same.contents (destination_of o.name)
@@ -160,8 +160,8 @@ module _ (openings : List OutOpening) (files : List ℕ) (own : ℕ) (o : OutOpe
   is_other place file is e =
       let open_ : IsSome (mid.outputs own) =
       subst (λ f. IsSome (mid.outputs f)) e (was.open_ place file is) in
-      let none : IsSome {T = List ℕ} None =
-      subst (λ (l : Option (List ℕ)). IsSome l) opens.number open_ in
+      let none : IsSome {T = WriteLog} None =
+      subst (λ (l : Option WriteLog). IsSome l) opens.number open_ in
       absurd (cc)
 
   is_earlier : (place file : ℕ) → place ≢ length files
@@ -173,9 +173,9 @@ module _ (openings : List OutOpening) (files : List ℕ) (own : ℕ) (o : OutOpe
   still_open place file is = elim (same_or_other place (length files)) as
       (λ _. IsSome (now.outputs file)) [
         | inl here ↦ subst (λ f. IsSome (now.outputs f)) (same_number files place own file here is)
-            (subst (λ (l : Option (List ℕ)). IsSome l) (sym opens.log) refl)
+            (subst (λ (l : Option WriteLog). IsSome l) (sym opens.log) refl)
         | inr there ↦ let before = is_earlier place file there is in
-            subst (λ (l : Option (List ℕ)). IsSome l)
+            subst (λ (l : Option WriteLog). IsSome l)
             (sym (opens.outputs file (is_other place file before))) (was.open_ place file before)
       ]
 

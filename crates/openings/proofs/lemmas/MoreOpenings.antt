@@ -6,8 +6,9 @@ use Rattle.std.specs.Prelude.{IfSome, IsTrue}
 use Rattle.std.specs.List.{slice_get}
 use Rattle.std.proofs.lemmas.Bool.{false≢true}
 use Rattle.std.proofs.lemmas.Option.{slice_get_within}
-use Rattle.collector.specs.Files.{FilesShown, nothing_read, SameLogs, OtherLogs, SameContents}
-use Rattle.collector.specs.Files.{SamePlaces, OpensOutput, OpensNothing, Refuses, writes_of}
+use Rattle.collector.specs.Files.{FilesShown, WriteLog, nothing_read, nothing_written, SameLogs}
+use Rattle.collector.specs.Files.{OtherLogs, SameContents, SamePlaces, OpensOutput, OpensNothing}
+use Rattle.collector.specs.Files.{Refuses, writes_of}
 use Rattle.collector.proofs.Logs.{places_none, places_on}
 use Rattle.collector.specs.declared.names.Opening.{Opening}
 use Rattle.collector.specs.declared.names.Opening.TheVariants.{Input, Output}
@@ -148,14 +149,14 @@ module _ {L : Type 0} (empty : L) where
     }
 
 -- nothing is written to files that are opened
-pub nothing_written : (number : ℕ → Option ℕ) (old new : FilesShown)
-    → AreOpened [] number old.outputs new.outputs → (file : ℕ)
+pub opens_unwritten : (number : ℕ → Option ℕ) (old new : FilesShown)
+    → AreOpened nothing_written number old.outputs new.outputs → (file : ℕ)
     → writes_of new file ≡ writes_of old file
-nothing_written number old new a file = elim (a.others file) as
+opens_unwritten number old new a file = elim (a.others file) as
     (λ _. writes_of new file ≡ writes_of old file) [
-      | inl e ↦ ap (λ (o : Option (List ℕ)). unwrap_or o []) e
-      | inr p ↦ ap (λ (o : Option (List ℕ)). unwrap_or o []) (a.log p.0 file p.1)
-          ∙ ap (λ (o : Option (List ℕ)). unwrap_or o []) (sym (a.unopened p.0 file p.1))
+      | inl e ↦ ap (λ (o : Option WriteLog). (unwrap_or o nothing_written).bytes) e
+      | inr p ↦ ap (λ (o : Option WriteLog). (unwrap_or o nothing_written).bytes) (a.log p.0 file p.1)
+          ∙ ap (λ (o : Option WriteLog). (unwrap_or o nothing_written).bytes) (sym (a.unopened p.0 file p.1))
     ]
 
 -- what was open before has the log that it had
@@ -185,7 +186,7 @@ pub logs_kept : (plan : Planned) (inputs : List (Option ℕ)) (outputs : List �
     → KeepsLogs old new
 logs_kept plan inputs outputs last old new o = record {
   inputs = kept nothing_read (answer_at inputs) old.inputs new.inputs o.input_logs;
-  outputs = kept [] (slice_get outputs) old.outputs new.outputs o.output_logs;
+  outputs = kept nothing_written (slice_get outputs) old.outputs new.outputs o.output_logs;
   held = kept_held nothing_read (answer_at inputs) old.inputs new.inputs old.held new.held
       o.input_logs o.held;
 }
@@ -212,7 +213,7 @@ opens_none plan s = record {
   operands = λ place is. absurd (cc);
   refused = tt;
   input_logs = opened_none nothing_read (answer_at []) (λ place. refl) s.inputs;
-  output_logs = opened_none [] (slice_get []) (λ place. refl) s.outputs;
+  output_logs = opened_none nothing_written (slice_get []) (λ place. refl) s.outputs;
   standard_input = refl;
   held = λ file. inl refl;
   failures = refl;
@@ -283,7 +284,7 @@ module _ (plan : Planned) (first mid now : FilesShown) where
             ];
         refused = tt;
         input_logs = logs;
-        output_logs = opened_same [] (slice_get []) (slice_get []) first.outputs mid.outputs now.outputs
+        output_logs = opened_same nothing_written (slice_get []) (slice_get []) first.outputs mid.outputs now.outputs
             (λ place. refl) outputs was.output_logs;
         standard_input = standard ∙ was.standard_input;
         held = held;
@@ -340,7 +341,7 @@ module _ (plan : Planned) (first mid now : FilesShown) where
     input_logs = opened_same nothing_read (answer_at inputs)
         (answer_at inputs) first.inputs mid.inputs now.inputs
         (λ place. refl) does.inputs was.input_logs;
-    output_logs = opened_more [] (length files) file (slice_get files)
+    output_logs = opened_more nothing_written (length files) file (slice_get files)
         (slice_get (files ++ file ∷ [])) first.outputs mid.outputs now.outputs
         (slice_get_none files) (slice_get_last files file)
         (slice_get_others files file) does.number does.log does.outputs was.output_logs;
@@ -370,7 +371,7 @@ module _ (plan : Planned) (first mid now : FilesShown) where
     input_logs = opened_same nothing_read (answer_at inputs)
         (answer_at inputs) first.inputs mid.inputs now.inputs
         (λ place. refl) does.inputs was.input_logs;
-    output_logs = opened_same [] (slice_get outputs)
+    output_logs = opened_same nothing_written (slice_get outputs)
         (slice_get outputs) first.outputs mid.outputs now.outputs
         (λ place. refl) does.outputs was.output_logs;
     standard_input = does.held.standard_input ∙ was.standard_input;
@@ -394,7 +395,7 @@ module _ (plan : Planned) (first mid now : FilesShown) where
     input_logs = opened_same nothing_read (answer_at inputs)
         (answer_at inputs) first.inputs mid.inputs now.inputs
         (λ place. refl) does.same.inputs was.input_logs;
-    output_logs = opened_same [] (slice_get outputs)
+    output_logs = opened_same nothing_written (slice_get outputs)
         (slice_get outputs) first.outputs mid.outputs now.outputs
         (λ place. refl) does.same.outputs was.output_logs;
     standard_input = does.same.held.standard_input ∙ was.standard_input;
@@ -411,7 +412,7 @@ module _ (plan : Planned) (first mid now : FilesShown) where
   untried_by answers last is opens same = record {
     none = refl;
     input = is;
-    logs = same_logs [] (slice_get []) first.outputs now.outputs (λ place. refl) opens.output_logs;
+    logs = same_logs nothing_written (slice_get []) first.outputs now.outputs (λ place. refl) opens.output_logs;
     contents = same;
   }
 
@@ -493,10 +494,11 @@ module _ (plan : Planned) (first mid now : FilesShown) where
 pub all_unwritten : (strict : Bool) (plan : Planned) (first now : FilesShown) (f : OpenFault)
     → FailsToOpen strict plan first now f → (file : ℕ) → writes_of now file ≡ writes_of first file
 all_unwritten strict plan first now f fails =
-    nothing_written (slice_get fails.outputs) first now fails.opens.output_logs
+    opens_unwritten (slice_get fails.outputs) first now fails.opens.output_logs
 
 -- if no output was answered, every output has the log that it had
-pub no_output_logs : (old new : ℕ → Option (List ℕ)) → AreOpened [] (slice_get []) old new
+pub no_output_logs : (old new : ℕ → Option WriteLog)
+    → AreOpened nothing_written (slice_get []) old new
     → SameLogs old new
 no_output_logs old new a file = elim (a.others file) as (λ _. new file ≡ old file) [
   | inl e ↦ e

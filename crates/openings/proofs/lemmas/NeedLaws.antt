@@ -14,11 +14,11 @@ use Rattle.commands.specs.declared.spec.FilterSpec.TheVariants as spec
 use Rattle.planner.specs.Planned.{Planned}
 use Rattle.planner.specs.declared.plan.Node.{Node}
 use Rattle.planner.specs.declared.plan.Node.TheVariants as node
-use Rattle.openings.specs.Needs.{end_for, front_for, HasNoHead, IsNeededOnly, IsReadByHead}
+use Rattle.openings.specs.Needs.{end_for, front_for, HasNoHead, IsReadByHead}
 use Rattle.openings.specs.Needs.{NeedsOnly, TakesFirst}
 use Rattle.openings.specs.declared.needs.Need.{Need}
 use Rattle.openings.specs.declared.needs.Need.TheVariants as need
-use Rattle.openings.specs.inner.Needs.{AreNeeds, CoversFirst, IsNeedFor, IsNeedOf, IsReadFirst}
+use Rattle.openings.specs.inner.Needs.{AreNeeds, CoversFirst, IsNeedFor, IsNeedOf}
 use Rattle.openings.specs.inner.Needs.{Joins}
 use Rattle.openings.specs.inner.Needs.{then_need}
 

@@ -6,7 +6,7 @@ use Rattle.std.specs.Prelude.{IfSome}
 use Rattle.std.specs.List.{slice_get}
 use Rattle.std.proofs.lemmas.Bool.{eqb-true, eqb-false}
 use Rattle.std.proofs.lemmas.Option.{none-some, same_Some}
-use Rattle.collector.specs.Files.{FilesShown, nothing_read, SameLogs}
+use Rattle.collector.specs.Files.{FilesShown, nothing_read, nothing_written, SameLogs}
 use Rattle.collector.specs.InputEnds.{IsHeldFirst, IsHeldLeft, IsLeftOf, LeavesOut, LeavesRest}
 use Rattle.collector.specs.InputEnds.{left_out_too}
 use Rattle.collector.specs.declared.needed.LeftOut.{LeftOut}
@@ -384,7 +384,7 @@ module _ (plan : Planned) (inputs : List (Option ℕ)) (first mid now : FilesSho
     refused = was.refused;
     input_logs = opened_still nothing_read
         (answer_at inputs) first.inputs mid.inputs now.inputs fronts.inputs was.input_logs;
-    output_logs = opened_still [] (slice_get outputs) first.outputs mid.outputs now.outputs
+    output_logs = opened_still nothing_written (slice_get outputs) first.outputs mid.outputs now.outputs
         fronts.outputs was.output_logs;
     standard_input = fronts.standard_input ∙ was.standard_input;
     held = λ file. elim (fronts.others file) as (λ _. (now.held file ≡ first.held file)

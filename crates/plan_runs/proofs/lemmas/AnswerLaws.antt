@@ -1,6 +1,6 @@
 -- What files hold after a run of a plan, by what its inputs held before it.
 use Rattle.std.proofs.Common.{◌≡◌, ℕ, false, List, ◌++◌, Option, Some, None, ◌⊎◌, inl, inr}
-use Rattle.std.proofs.Common.{unwrap_or, refl, sym, ap, ◌∙◌, subst, append-nil}
+use Rattle.std.proofs.Common.{unwrap_or, refl, sym, ap, ◌∙◌, subst, append-nil, append_assoc}
 use Rattle.std.specs.Prelude.{slice_get, is_none, option_map, option_and_then}
 use Rattle.std.proofs.lemmas.Option.{same_Some, slice_get-map}
 use mathlib.Core.List.{IsPrefix}
@@ -157,16 +157,17 @@ module _ (plan : Planned) (o : OpenedFiles) (old then new : FilesShown) (own : H
   pub shortened : AreShortened plan (contents_of plan o old) left
   shortened k = short_at k (slice_get plan.nodes k) (own_file o k) refl refl
 
-  -- a prefix of an output of the one answer is one of the other
-  begins : IsPlan (graph_of plan) → (written : ℕ → List ℕ)
+  -- a prefix of an output of the one answer is one of the other, and so is the front of it
+  begins : IsPlan (graph_of plan) → (written out : ℕ → List ℕ)
       → ((k p : ℕ) → node_at (graph_of plan) k ≡ Some Sink → Reads (graph_of plan) k p
-      → IsPrefix (written k) (answer (graph_of plan) left p))
+      → IsPrefix (written k ++ out k) (answer (graph_of plan) left p))
       → (k p : ℕ) → node_at (graph_of plan) k ≡ Some Sink → Reads (graph_of plan) k p
       → IsPrefix (written k) (answer (graph_of plan) (contents_of plan o old) p)
-  begins is_plan written outputs k p at reads =
+  begins is_plan written out outputs k p at reads =
       subst (λ (l : List ℕ). IsPrefix (written k) l)
       (same_output plan (contents_of plan o old) left is_plan shortened k p at reads)
-      (outputs k p at reads)
+      (let whole = outputs k p at reads in
+      (out k ++ whole.0, sym (append_assoc (written k) (out k) whole.0) ∙ whole.1))
 
   module _ (settings : Settings) (result : Outcome)
       (runs : RunsPlanTo plan o settings then new result) where
@@ -226,19 +227,19 @@ module _ (plan : Planned) (o : OpenedFiles) (old then new : FilesShown) (own : H
   answers is_plan settings (outcome.Finished status) runs holds =
       let both = runs.outcome_is left (agree settings (outcome.Finished status) runs) in (
         leaves settings (outcome.Finished status) runs holds (λ bytes whole. bytes ≡ whole)
-            (λ k p at reads. both.0 k p at reads
+            (λ k p at reads. (both.0 k p at reads).0
             ∙ same_output plan (contents_of plan o old) left is_plan shortened k p at reads),
         both.1 ∙ same_status plan (contents_of plan o old) left is_plan shortened,
       )
   answers is_plan settings (outcome.Stalled waits) runs holds =
       let is = runs.outcome_is in
       leaves settings (outcome.Stalled waits) runs holds IsPrefix
-      (begins is_plan (let r = runs.run in r.written)
+      (begins is_plan (let r = runs.run in r.written) (let r = runs.run in r.out)
       (is.0 left (agree settings (outcome.Stalled waits) runs)))
   answers is_plan settings (outcome.Faulted fault) runs holds =
       let is = runs.outcome_is in
       leaves settings (outcome.Faulted fault) runs holds IsPrefix
-      (begins is_plan (let r = runs.run in r.written) (let t = is.2 in
+      (begins is_plan (let r = runs.run in r.written) (let r = runs.run in r.out) (let t = is.2 in
       t.0 left (agree settings (outcome.Faulted fault) runs)))
 
 -- ---- the rest of an input that a head alone reads

@@ -3,7 +3,8 @@ use Rattle.std.proofs.Common.{◌≡◌, ℕ, ◌<◌, List, [], ◌++◌, lengt
 use Rattle.std.proofs.Common.{refl, sym, ap, ◌∙◌, arith}
 use Rattle.std.specs.Prelude.{slice_get}
 use Rattle.std.proofs.lemmas.Option.{same_Some, slice_get_within}
-use Rattle.collector.specs.Files.{FilesShown, Grows, IsSoleWriter, left_of, writes_of}
+use Rattle.collector.specs.Files.{FilesShown, Grows, IsSoleWriter, WriteLog, left_of}
+use Rattle.collector.specs.Files.{nothing_written, writes_of}
 use Rattle.run_types.specs.Destinations.{Destination, destination_of, is_kept}
 use Rattle.run_types.specs.declared.names.OutName.{OutName}
 use Rattle.planner.specs.Laws.{HasOwnOpenings}
@@ -91,7 +92,7 @@ module _ (plan : Planned) (o : OpenedFiles) (old then new : FilesShown) (own : H
     fresh =
         let opens = all.opens in
         let logs = opens.output_logs in
-        ap (λ (l : Option (List ℕ)). unwrap_or l []) (logs.log place file is)
+        ap (λ (l : Option WriteLog). (unwrap_or l nothing_written).bytes) (logs.log place file is)
 
     more_is : (let g = grown in g.more) ≡ writes_of new file
     more_is = let g = grown in sym (g.log ∙ ap (λ (l : List ℕ). l ++ g.more) fresh)
@@ -136,7 +137,7 @@ module _ (plan : Planned) (o : OpenedFiles) (old then new : FilesShown) (own : H
         ∙ (w.file_is ∙ (ap (λ (i : ℕ). slice_get o.outputs i) here ∙ is))
 
     written : (n : Option ℕ) → a.node ≡ n → writes_of new file ≡ written_for plan o new n
-    written None none = ap (λ (l : Option (List ℕ)). unwrap_or l [])
+    written None none = ap (λ (l : Option WriteLog). (unwrap_or l nothing_written).bytes)
         (touches.outputs file (no_writer none)) ∙ fresh
     written (Some k) for_node = sym (ap (λ (f : Option ℕ). written_by new f) (node_file k for_node))
 

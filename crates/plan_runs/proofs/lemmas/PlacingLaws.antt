@@ -5,7 +5,7 @@ use Rattle.std.proofs.Common.{subst, arith}
 use Rattle.std.specs.List.{slice_get}
 use Rattle.std.proofs.lemmas.Bool.{false≢true}
 use Rattle.std.proofs.lemmas.Option.{same_Some, slice_get_within}
-use Rattle.collector.specs.Files.{FilesShown, SameLogs, left_of}
+use Rattle.collector.specs.Files.{FilesShown, SameLogs, WriteLog, left_of, nothing_written}
 use Rattle.collector.specs.Places.{KeepsFiles, LeavesOutputs}
 use Rattle.collector.specs.declared.fault.RunFault.{RunFault}
 use Rattle.run_types.specs.Destinations.{Destination, StandardOutput, FileOf, destination_of}
@@ -30,7 +30,8 @@ use Rattle.plan_runs.specs.Placings.{count_placed}
 written_by_same : (a b : FilesShown) → SameLogs a.outputs b.outputs → (file : Option ℕ)
     → written_by b file ≡ written_by a file
 written_by_same a b same None = refl
-written_by_same a b same (Some file) = ap (λ (l : Option (List ℕ)). unwrap_or l []) (same file)
+written_by_same a b same (Some file) = ap (λ (l : Option WriteLog). (unwrap_or l nothing_written).bytes)
+    (same file)
 
 written_same : (plan : Planned) (opened : OpenedFiles) (a b : FilesShown)
     → SameLogs a.outputs b.outputs → (node : Option ℕ)

@@ -11,7 +11,7 @@ use Rattle.network_laws.specs.declared.outcome.Outcome.TheVariants as outcome
 use Rattle.networks.specs.Turns.{IsNoStall}
 use Rattle.pipeline_text.specs.Grammar.{script_of}
 use Rattle.pipeline_text.specs.declared.script.Script.{Script}
-use Rattle.collector.specs.Files.{FilesShown, writes_of}
+use Rattle.collector.specs.Files.{FilesShown, nothing_written, writes_of}
 use Rattle.clap.specs.Words.{Text}
 use Rattle.command_line.specs.Requests.{AsksFor}
 use Rattle.command_line.specs.declared.request.Request.{Request}
@@ -71,7 +71,7 @@ pub given_unwritten : (script : ScriptFrom) (text : List ℕ) (old new : FilesSh
     → IsGiven script text old new → WritesNothing old new
 given_unwritten (from.Text letters) text old new h file = ap (λ s. writes_of s file) h.1
 given_unwritten (from.File name) text old new h file =
-    ap (λ log. unwrap_or log []) (h.outputs file)
+    ap (λ log. (unwrap_or log nothing_written).bytes) (h.outputs file)
 
 -- a script whose text was given
 module _

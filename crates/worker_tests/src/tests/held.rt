@@ -2,7 +2,7 @@
 // and what is read reaches them then.
 use super::rows::{BYTES_MAX, plan_of};
 use super::*;
-use collector::{Files, IoFailed, NotOpened, Readiness};
+use collector::{Batch, Files, IoFailed, NotOpened, Readiness};
 use file_stores::MemoryFiles;
 use machine::NoMemory;
 use network_laws::Outcome;
@@ -154,6 +154,10 @@ impl Files for HeldFiles<'_> {
     fn write(&mut self, file: usize, from: &[u8]) -> Result<usize, IoFailed> {
         self.marks.write_begins();
         self.files.write(file, from)
+    }
+
+    fn settle(&mut self, file: usize) -> Result<Option<Batch>, IoFailed> {
+        self.files.settle(file)
     }
 
     fn failures(&self) -> u64 {

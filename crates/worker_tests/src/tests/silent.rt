@@ -1,7 +1,7 @@
 // Inputs that are silent for a while: none is read while its read would wait, and one that is silent holds up no other.
 use super::rows::{BYTES_MAX, plan_of};
 use super::*;
-use collector::{Files, IoFailed, NotOpened, Readiness};
+use collector::{Batch, Files, IoFailed, NotOpened, Readiness};
 use file_stores::MemoryFiles;
 use machine::NoMemory;
 use network_laws::Outcome;
@@ -80,6 +80,10 @@ impl Files for SilentFiles {
 
     fn write(&mut self, file: usize, from: &[u8]) -> Result<usize, IoFailed> {
         self.files.write(file, from)
+    }
+
+    fn settle(&mut self, file: usize) -> Result<Option<Batch>, IoFailed> {
+        self.files.settle(file)
     }
 
     fn failures(&self) -> u64 {

@@ -14,4 +14,5 @@ loop-at-preserved g c =
     (g.F.Files.shows c.args.files.now) c.loop-at.at c.in_ok-at.field-0
     (g.F.Files.shows c.loop-at.files) (g.F.Files.shows c.write.new.self)
     c.in_ok-at.ensures.count.0 c.in_ok-at.ensures.only c.in_ok-at.ensures.told
+    c.in_ok-at.ensures.out
     c.in_ok-at.ensures.failures c.loop-at.invariant

@@ -6,7 +6,7 @@ use Rattle.openings.specs.Answers.{missing_places}
 use Rattle.openings.specs.Openings.{NamesMissing}
 use Rattle.openings.specs.declared.fault.OpenFault.TheVariants as fault
 use Rattle.openings.proofs.lemmas.MoreOpenings.{all_unwritten, lacks_operand, nothing_tried}
-use Rattle.openings.proofs.lemmas.MoreOpenings.{nothing_written}
+use Rattle.openings.proofs.lemmas.MoreOpenings.{opens_unwritten}
 use Rattle.openings.proofs.lemmas.DestinationLaws.{ahead_leaves, contents_none, destinations_from}
 use Rattle.openings.proofs.lemmas.DestinationLaws.{destinations_still}
 use Rattle.openings.proofs.lemmas.FrontLaws.{fronts_left, whole_still}
@@ -127,7 +127,7 @@ returns-in_err-refuse_missing-clause-refused g c = λ t.
 pub returns-in_err-refuse_missing-clause-written : goal.returns-in_err-refuse_missing-clause-written
 returns-in_err-refuse_missing-clause-written g c =
     let opens = c.in_ok-open_inputs.ensures.ok in
-    nothing_written (slice_get []) (g.F.Files.shows c.args.files.now)
+    opens_unwritten (slice_get []) (g.F.Files.shows c.args.files.now)
     (g.F.Files.shows c.open_inputs.new.files) opens.output_logs
 
 pub returns-in_err-open_outputs-clause-opens : goal.returns-in_err-open_outputs-clause-opens
@@ -215,7 +215,7 @@ returns-clause-written g c =
     (c.in_ok-open_outputs.ensures.ok (g.F.Files.shows c.args.files.now)
     c.open_inputs.new.answers.items c.in_ok-open_inputs.ensures.count
     c.in_ok-open_inputs.ensures.ok) in
-    nothing_written (slice_get c.open_outputs.new.answers.items)
+    opens_unwritten (slice_get c.open_outputs.new.answers.items)
     (g.F.Files.shows c.args.files.now) now opens.output_logs
 
 pub returns-clause-holds : goal.returns-clause-holds

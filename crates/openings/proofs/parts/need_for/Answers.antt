@@ -1,7 +1,6 @@
-use Rattle.std.proofs.Common.{◌≡◌, ◌≤◌, Some, None, length, refl, sym, ◌∙◌, arith}
+use Rattle.std.proofs.Common.{length, refl, sym}
 use Rattle.std.proofs.lemmas.Bool.{ltb-false}
 use Rattle.std.proofs.lemmas.Option.{slice_get_past, slice_get_read}
-use Rattle.std.specs.List.{slice_get}
 use Rattle.openings.proofs.lemmas.NeedLaws.{need_is, no_need}
 use Rattle.openings.proofs.parts.need_for.Goals as goal
 
