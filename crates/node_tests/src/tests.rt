@@ -13,6 +13,7 @@ mod desk;
 mod faults;
 mod memory;
 mod options;
+mod outputs;
 mod pair;
 mod pipes;
 mod watching;

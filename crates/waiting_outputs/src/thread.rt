@@ -1,0 +1,163 @@
+ghost use Rattle.std.specs.Prelude.{◌≡◌, ◌≤◌, length, take, None, IfOk, IfErr};
+ghost use Rattle.std.specs.Io.KnownBytes.{Appends};
+ghost use Rattle.collector.specs.Files.{batch_bytes};
+
+use crate::done::Done;
+use crate::line::{Debtor, Owing, ends};
+use collector::Batch;
+use crossbeam_channel::{Receiver, Sender, bounded};
+use std::alloc::{AllocError, Global};
+use std::io::{self, ErrorKind, Write};
+use std::marker::{Brand, Model, Send};
+use std::sync::Wait;
+use std::thread;
+use std::thread::Threads;
+
+/// A file, bytes to write to it, and who is owed the answer. Contracts see the bytes, and what is owed.
+#[derive(Drop)]
+pub struct Task<F: Write + Drop> {
+    file: F,
+    batch: Batch,
+    debtor: Debtor<F>,
+    // The thread puts the number on the notices after the answer.
+    number: usize,
+}
+
+impl<F: Write + Drop> Model for Task<F> {
+    ghost use Rattle.std.specs.Prelude.{◌≡◌};
+    ghost use Rattle.collector.specs.Files.{batch_bytes};
+    ghost use Rattle.waiting_outputs.specs.inner.Writes.{Tasked};
+
+    ghost Value = { Tasked };
+
+    ghost view = { λ t. record { owed = t.debtor; batch = t.batch } };
+
+    ghost invariant = { λ t. t.debtor
+        ≡ record { before = F.contents t.file; bytes = batch_bytes t.batch } };
+}
+
+/// Hands bytes over to one thread.
+#[derive(Drop)]
+pub struct Giver<F: Write + Drop> {
+    to: Sender<Task<F>>,
+}
+
+/// At most one task waits for the thread.
+const TASKS: usize = 1;
+
+/// A channel of tasks to one thread.
+pub fn tasks<F: Write + Drop>(alloc: Global) -> Result<(Giver<F>, Receiver<Task<F>>), AllocError> {
+    let (to, from) = bounded(alloc, TASKS)?;
+    Ok((Giver { to }, from))
+}
+
+/// Hands bytes over, to be written to this file. File and bytes come back if memory was refused or the thread has ended.
+pub fn hand<R: Wait, F: Write + Drop>(
+    rt: &R,
+    alloc: Global,
+    hand: &Giver<F>,
+    number: usize,
+    file: F,
+    batch: Batch,
+) -> Result<Owing<F>, (F, Batch)>
+    ensures owed { IfOk result
+        (λ owing. owing ≡ record { before = F.contents file; bytes = batch_bytes batch }) }
+    ensures refused { IfErr result (λ back. (F.contents back.0 ≡ F.contents file) × (back.1 ≡ batch)) }
+{
+    let Ok((owing, debtor)) = ends::<F, Brand>(alloc, &file, batch.bytes()) else {
+        return Err((file, batch));
+    };
+    let task = Task {
+        file,
+        batch,
+        debtor,
+        number,
+    };
+    match hand.to.send(rt, task) {
+        Ok(()) => Ok(owing),
+        Err(refused) => Err(refused.into_inner().into_parts()),
+    }
+}
+
+impl<F: Write + Drop> Task<F> {
+    // The file and the bytes again.
+    fn into_parts(self) -> (F, Batch)
+        ensures owed { self.owed ≡ record { before = F.contents result.0; bytes = batch_bytes result.1 } }
+        ensures batch { result.1 ≡ self.batch }
+    {
+        let Task {
+            file,
+            batch,
+            debtor: _,
+            number: _,
+        } = self;
+        (file, batch)
+    }
+
+    // Writes the bytes, and gives the answer. Returns the number, or None if nobody takes the answer.
+    fn write_and_answer<R: Wait>(self, rt: &R) -> Option<usize>
+    where
+        F: Drop,
+    {
+        let Task {
+            mut file,
+            batch,
+            debtor,
+            number,
+        } = self;
+        let (count, error) = write_whole(&mut file, batch.bytes());
+        let done = Done {
+            file,
+            batch,
+            count,
+            error,
+        };
+        if debtor.give(rt, done) {
+            Some(number)
+        } else {
+            None
+        }
+    }
+}
+
+// Writes all of the bytes, each short write followed by the rest. Returns how many were taken, and the failure if those are not all.
+fn write_whole<F: Write>(file: &mut F, bytes: &[u8]) -> (usize, Option<io::Error>)
+    ensures count { result.0 ≤ length bytes.now }
+    ensures written { Appends (F.contents file.old) (F.contents file.new) (take result.0 bytes.now) }
+    ensures whole { result.1 ≡ None → result.0 ≡ length bytes.now }
+{
+    let mut at = 0;
+    while at < bytes.len() {
+        match file.write(&bytes[at..]) {
+            Ok(0) => return (at, Some(io::Error::from(ErrorKind::WriteZero))),
+            Ok(count) => at += count,
+            Err(error) => return (at, Some(error)),
+        }
+    }
+    (at, None)
+}
+
+/// Begins a thread that does these tasks, and puts the number of each on the notices once it is done. False if it got none.
+pub fn begin_thread<R: Threads + Wait + Copy + Send + 'static, F: Write + Drop + Send + 'static>(
+    rt: &R,
+    from: Receiver<Task<F>>,
+    notices: Sender<usize>,
+) -> bool {
+    let rt = *rt;
+    thread::spawn(&rt, move || serve(&rt, from, notices)).is_ok()
+}
+
+// Does one task after the other, until nobody gives any.
+fn serve<R: Wait, F: Write + Drop>(rt: &R, from: Receiver<Task<F>>, notices: Sender<usize>) {
+    for _ in rt.forever() {
+        let Ok(task) = from.recv(rt) else {
+            return;
+        };
+        let Some(number) = task.write_and_answer(rt) else {
+            return;
+        };
+        if notices.send(rt, number).is_err() {
+            return;
+        }
+    }
+}
