@@ -4,7 +4,7 @@ ghost use Rattle.waiting_outputs.specs.inner.Writes.{IsAnswer, Owed};
 
 use crate::done::Done;
 use crossbeam_channel::protocol::{Lesson, Outcome, Protocol, Split};
-use crossbeam_channel::{Pass, RuledReceiver, RuledSender, TryRecvError, bounded_with};
+use crossbeam_channel::{Pass, RuledReceiver, RuledSender, bounded_with};
 use std::alloc::{AllocError, Global};
 use std::collections::LinkedList;
 use std::io::Write;
@@ -90,9 +90,9 @@ impl<B: Debt> Split<Known> for Halves<B> {
     ghost right = { λ v. Sends B.debt.before B.debt.bytes };
 }
 
-/// The answer that is owed to the caller. Contracts see it as what was handed over: what the file held, where that is known, and the piece.
+// The answer that is owed to the caller. Contracts see it as what was handed over: what the file held, if that is known, and the piece.
 #[derive(Drop)]
-pub struct Owing<F: Write + Drop> {
+pub(crate) struct Owing<F: Write + Drop> {
     from: RuledReceiver<Done<F>, Known, OneAnswer<F>>,
     pass: Pass<Done<F>, Known>,
 }
@@ -111,20 +111,8 @@ impl<F: Write + Drop> Model for Owing<F> {
 }
 
 impl<F: Write + Drop> Owing<F> {
-    /// The answer, if it is there.
-    pub fn answer<R: Wait>(self, rt: &R) -> Result<Done<F>, Option<Owing<F>>>
-        ensures answer { IfOk result (λ done. IsAnswer F.contents done self) }
-    {
-        let Owing { from, mut pass } = self;
-        match from.try_recv_as::<Got<F>, R>(rt, &mut pass) {
-            Ok(done) => Ok(done),
-            Err(TryRecvError::Empty) => Err(Some(Owing { from, pass })),
-            Err(_) => Err(None),
-        }
-    }
-
-    /// Waits for the answer. None if nobody can give it.
-    pub fn wait<R: Wait>(self, rt: &R) -> Option<Done<F>>
+    // Waits for the answer. None if nobody can give it.
+    pub(crate) fn wait<R: Wait>(self, rt: &R) -> Option<Done<F>>
         ensures answer { IfSome result (λ done. IsAnswer F.contents done self) }
     {
         let Owing { from, mut pass } = self;

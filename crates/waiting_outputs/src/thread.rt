@@ -2,25 +2,21 @@ ghost use Rattle.std.specs.Prelude.{◌≡◌, ◌≤◌, length, take, None, If
 ghost use Rattle.std.specs.Io.KnownBytes.{Appends};
 ghost use Rattle.collector.specs.Files.{batch_bytes};
 
-use crate::done::Done;
+use crate::done::{Done, Failed};
 use crate::line::{Debtor, Owing, ends};
 use collector::Batch;
 use crossbeam_channel::{Receiver, Sender, bounded};
 use std::alloc::{AllocError, Global};
-use std::io::{self, ErrorKind, Write};
-use std::marker::{Brand, Model, Send};
+use std::io::Write;
+use std::marker::{Brand, Model};
 use std::sync::Wait;
-use std::thread;
-use std::thread::Threads;
 
-/// A file, bytes to write to it, and who is owed the answer. Contracts see the bytes, and what is owed.
+// A file, bytes to write to it, and who is owed the answer. Contracts see the bytes, and what is owed.
 #[derive(Drop)]
-pub struct Task<F: Write + Drop> {
+struct Task<F: Write + Drop> {
     file: F,
     batch: Batch,
     debtor: Debtor<F>,
-    // The thread puts the number on the notices after the answer.
-    number: usize,
 }
 
 impl<F: Write + Drop> Model for Task<F> {
@@ -42,21 +38,37 @@ pub struct Giver<F: Write + Drop> {
     to: Sender<Task<F>>,
 }
 
-/// At most one task waits for the thread.
-const TASKS: usize = 1;
-
-/// A channel of tasks to one thread.
-pub fn tasks<F: Write + Drop>(alloc: Global) -> Result<(Giver<F>, Receiver<Task<F>>), AllocError> {
-    let (to, from) = bounded(alloc, TASKS)?;
-    Ok((Giver { to }, from))
+/// What is handed over to one thread, as it takes that.
+#[derive(Drop)]
+pub struct Taker<F: Write + Drop> {
+    from: Receiver<Task<F>>,
 }
 
-/// Hands bytes over, to be written to this file. File and bytes come back if memory was refused or the thread has ended.
-pub fn hand<R: Wait, F: Write + Drop>(
+// At most one task waits for the thread.
+const TASKS: usize = 1;
+
+/// The two ends of a channel to one thread: one hands bytes over, and the other writes them.
+pub fn tasks<F: Write + Drop>(alloc: Global) -> Result<(Giver<F>, Taker<F>), AllocError> {
+    let (to, from) = bounded(alloc, TASKS)?;
+    Ok((Giver { to }, Taker { from }))
+}
+
+impl<F: Write + Drop> Taker<F> {
+    /// Waits until bytes are handed over, writes them, and gives the answer. Returns false if nobody hands any over any more, or nobody takes the
+    /// answer.
+    pub fn do_next<R: Wait>(&mut self, rt: &R) -> bool {
+        match self.from.recv(rt) {
+            Ok(task) => task.write_and_answer(rt),
+            Err(_) => false,
+        }
+    }
+}
+
+// Hands bytes over, to be written to this file. File and bytes come back if memory was refused or the thread has ended.
+pub(crate) fn hand<R: Wait, F: Write + Drop>(
     rt: &R,
     alloc: Global,
     hand: &Giver<F>,
-    number: usize,
     file: F,
     batch: Batch,
 ) -> Result<Owing<F>, (F, Batch)>
@@ -71,7 +83,6 @@ pub fn hand<R: Wait, F: Write + Drop>(
         file,
         batch,
         debtor,
-        number,
     };
     match hand.to.send(rt, task) {
         Ok(()) => Ok(owing),
@@ -89,21 +100,16 @@ impl<F: Write + Drop> Task<F> {
             file,
             batch,
             debtor: _,
-            number: _,
         } = self;
         (file, batch)
     }
 
-    // Writes the bytes, and gives the answer. Returns the number, or None if nobody takes the answer.
-    fn write_and_answer<R: Wait>(self, rt: &R) -> Option<usize>
-    where
-        F: Drop,
-    {
+    // Writes the bytes, and gives the answer. Returns false if nobody takes it.
+    fn write_and_answer<R: Wait>(self, rt: &R) -> bool {
         let Task {
             mut file,
             batch,
             debtor,
-            number,
         } = self;
         let (count, error) = write_whole(&mut file, batch.bytes());
         let done = Done {
@@ -112,16 +118,12 @@ impl<F: Write + Drop> Task<F> {
             count,
             error,
         };
-        if debtor.give(rt, done) {
-            Some(number)
-        } else {
-            None
-        }
+        debtor.give(rt, done)
     }
 }
 
 // Writes all of the bytes, each short write followed by the rest. Returns how many were taken, and the failure if those are not all.
-fn write_whole<F: Write>(file: &mut F, bytes: &[u8]) -> (usize, Option<io::Error>)
+fn write_whole<F: Write>(file: &mut F, bytes: &[u8]) -> (usize, Option<Failed>)
     ensures count { result.0 ≤ length bytes.now }
     ensures written { Appends (F.contents file.old) (F.contents file.new) (take result.0 bytes.now) }
     ensures whole { result.1 ≡ None → result.0 ≡ length bytes.now }
@@ -129,35 +131,10 @@ fn write_whole<F: Write>(file: &mut F, bytes: &[u8]) -> (usize, Option<io::Error
     let mut at = 0;
     while at < bytes.len() {
         match file.write(&bytes[at..]) {
-            Ok(0) => return (at, Some(io::Error::from(ErrorKind::WriteZero))),
+            Ok(0) => return (at, Some(Failed { number: None })),
             Ok(count) => at += count,
-            Err(error) => return (at, Some(error)),
+            Err(error) => return (at, Some(Failed::of(&error))),
         }
     }
     (at, None)
-}
-
-/// Begins a thread that does these tasks, and puts the number of each on the notices once it is done. False if it got none.
-pub fn begin_thread<R: Threads + Wait + Copy + Send + 'static, F: Write + Drop + Send + 'static>(
-    rt: &R,
-    from: Receiver<Task<F>>,
-    notices: Sender<usize>,
-) -> bool {
-    let rt = *rt;
-    thread::spawn(&rt, move || serve(&rt, from, notices)).is_ok()
-}
-
-// Does one task after the other, until nobody gives any.
-fn serve<R: Wait, F: Write + Drop>(rt: &R, from: Receiver<Task<F>>, notices: Sender<usize>) {
-    for _ in rt.forever() {
-        let Ok(task) = from.recv(rt) else {
-            return;
-        };
-        let Some(number) = task.write_and_answer(rt) else {
-            return;
-        };
-        if notices.send(rt, number).is_err() {
-            return;
-        }
-    }
 }

@@ -1,16 +1,17 @@
-// Bytes that are handed over, and written by a thread.
+// Outputs that are written here, or by a thread.
 ghost use Rattle.std.specs.Prelude.{◌≤◌, length};
 
 use collector::Batch;
-use crossbeam_channel::bounded;
 use std::alloc::Global;
 use std::io::{self, ErrorKind, Write};
 use std::marker::Send;
+use std::mem::drop;
 use std::process::Abort;
 use std::sync::Wait;
 use std::test::Fail;
+use std::thread;
 use std::thread::Threads;
-use waiting_outputs::{Output, begin_thread, tasks};
+use waiting_outputs::{Output, tasks};
 
 // A file that takes few bytes at a time, and fails once it is full.
 #[derive(Drop)]
@@ -41,51 +42,84 @@ impl Write for Few {
 // The bytes that are handed over.
 const BYTES: &[u8] = b"one\ntwo\n";
 
-// Hands bytes over to a thread that writes them to such a file. How many of them count, whether a write failed, and the bytes of the file.
-fn handed_over<R: Threads + Wait + Copy + Send + 'static>(
+// A file that nothing was written to.
+fn empty_file(alloc: Global, most: usize, room: usize) -> Few {
+    Few {
+        taken: Vec::new(alloc),
+        most,
+        room,
+    }
+}
+
+// Hands bytes over to a thread that writes them to such a file. Whether all of them were written, and the bytes of the file.
+fn handed_over<R: Abort + Threads + Wait + Copy + Send + 'static>(
     rt: &R,
     alloc: Global,
     most: usize,
     room: usize,
-) -> Result<(usize, bool, Vec<u8>), Fail> {
-    let (giver, from) = tasks(alloc)?;
-    let (notices, noted) = bounded(alloc, 1)?;
-    if !begin_thread(rt, from, notices) {
-        return Err("no thread")?;
-    }
-    let mut output = Output::new(Few {
-        taken: Vec::new(alloc),
-        most,
-        room,
-    });
+) -> Result<(bool, Vec<u8>), Fail> {
+    let (giver, mut taker) = tasks(alloc)?;
+    let there = *rt;
+    let begun = thread::spawn(rt, move || taker.do_next(&there));
+    assert!(rt; begun.is_ok());
+    let mut output = Output::new(empty_file(alloc, most, room));
     let batch = Batch::Joined(Vec::from_slice(alloc, BYTES)?);
-    if output.hand_over(rt, alloc, &giver, 7, batch).is_some() {
-        return Err("nobody takes it")?;
-    }
-    if noted.recv(rt) != Ok(7) {
-        return Err("another number")?;
-    }
-    let Some(taken) = output.answer(rt) else {
-        return Err("no answer")?;
-    };
+    let back = output.hand_over(rt, alloc, &giver, batch);
+    assert!(rt; back.is_none());
+    assert!(rt; output.is_out());
+    let is_whole = output.settle(rt).is_ok();
     let Some(file) = output.into_file() else {
         return Err("the file is away")?;
     };
-    Ok((taken.count, taken.error.is_some(), file.taken))
+    Ok((is_whole, file.taken))
 }
 
 #[test]
 fn a_thread_writes_all_that_is_handed_over(rt: HostRuntime) -> Result<(), Fail> {
-    let (count, failed, bytes) = handed_over(&rt, rt.alloc(), 3, 100)?;
-    assert_eq!(rt; (count, failed), (8, false));
+    let (is_whole, bytes) = handed_over(&rt, rt.alloc(), 3, 100)?;
+    assert!(rt; is_whole);
     assert_eq!(rt; bytes.as_slice(), BYTES);
     Ok(())
 }
 
 #[test]
 fn bytes_before_a_failure_count(rt: HostRuntime) -> Result<(), Fail> {
-    let (count, failed, bytes) = handed_over(&rt, rt.alloc(), 3, 5)?;
-    assert_eq!(rt; (count, failed), (5, true));
+    let (is_whole, bytes) = handed_over(&rt, rt.alloc(), 3, 5)?;
+    assert!(rt; !is_whole);
     assert_eq!(rt; bytes.as_slice(), b"one\nt".as_slice());
+    Ok(())
+}
+
+#[test]
+fn an_output_is_written_here(rt: HostRuntime) -> Result<(), Fail> {
+    let alloc = rt.alloc();
+    let mut output = Output::new(empty_file(alloc, 3, 5));
+    let first = output.write(BYTES).ok();
+    let second = output.write(&BYTES[3..]).ok();
+    assert_eq!(rt; (first, second), (Some(3), Some(2)));
+    assert!(rt; output.write(&BYTES[5..]).is_err());
+    assert!(rt; output.settle(&rt).is_ok() && output.finish().is_ok());
+    let Some(file) = output.into_file() else {
+        return Err("the file is away")?;
+    };
+    assert_eq!(rt; file.taken.as_slice(), b"one\nt".as_slice());
+    Ok(())
+}
+
+#[test]
+fn nothing_is_not_handed_over(rt: HostRuntime) -> Result<(), Fail> {
+    let alloc = rt.alloc();
+    let (giver, taker) = tasks(alloc)?;
+    let mut output = Output::new(empty_file(alloc, 3, 5));
+    let back = output.hand_over(&rt, alloc, &giver, Batch::Joined(Vec::new(alloc)));
+    assert!(rt; back.is_some() && !output.is_out());
+    drop(taker);
+    let back = output.hand_over(
+        &rt,
+        alloc,
+        &giver,
+        Batch::Joined(Vec::from_slice(alloc, BYTES)?),
+    );
+    assert!(rt; back.is_some() && !output.is_out());
     Ok(())
 }

@@ -1,5 +1,5 @@
 -- Where the file of an output is, as contracts see it.
-use Rattle.std.specs.Prelude.{ℕ, Bool, true, false, List, [], Option, None}
+use Rattle.std.specs.Prelude.{ℕ, ◌≤◌, Bool, true, false, List, [], length, Option, None}
 use Rattle.waiting_outputs.specs.declared.output.State.{State}
 use Rattle.waiting_outputs.specs.declared.output.State.TheVariants as state
 
@@ -20,3 +20,9 @@ abbrev pub is_out_in : {F : Type 0} → State F → Bool
 is_out_in (state.Here file) = false
 is_out_in (state.Out owing) = true
 is_out_in state.Lost = false
+
+-- if something has no answer yet, that is a byte at least
+abbrev pub HasOut : {F : Type 0} → State F → Type 0
+HasOut (state.Here file) = Unit {0}
+HasOut (state.Out owing) = 1 ≤ length owing.bytes
+HasOut state.Lost = Unit {0}

@@ -1,11 +1,11 @@
 -- Pieces that are handed over to be written by another thread (POSIX.1-2017 XSH write).
-use Rattle.std.specs.Prelude.{◌≡◌, ℕ, ◌≤◌, List, [], ◌++◌, length, take, Option}
-use Rattle.std.specs.Prelude.{None, Bool, false}
+use Rattle.std.specs.Prelude.{◌≡◌, ℕ, ◌≤◌, List, ◌++◌, length, take, Option, None}
 use Rattle.std.specs.Io.KnownBytes.{Appends}
 use Rattle.collector.specs.Files.{batch_bytes}
 use Rattle.collector.specs.declared.batch.Batch.{Batch}
 use Rattle.waiting_outputs.specs.declared.done.Done.{Done}
-use Rattle.waiting_outputs.specs.declared.output.Taken.{Taken}
+use Rattle.waiting_outputs.specs.declared.output.Answer.{Answer}
+use Rattle.waiting_outputs.specs.inner.Outputs.{OutputShown}
 
 -- what is owed an answer: what the file held before, where that is known, and the piece that was
 -- handed over
@@ -27,19 +27,10 @@ pub record IsAnswer {F : Type 0} (contents : F → Option (List ℕ)) (done : Do
   pub whole : done.error ≡ None → done.count ≡ length owed.bytes
   pub batch : batch_bytes done.batch ≡ owed.bytes
 
--- an output: what it holds after the last answer, where that is known; the bytes that were counted;
--- and the piece that was handed over and has no answer yet
-pub record OutputShown : Type 0 where
-  pub holds : Option (List ℕ)
-  pub counted : List ℕ
-  pub out : List ℕ
-  pub is_out : Bool
-
 -- An answer was taken: the file holds, after what it held, the bytes of the piece that are counted
--- now, each once; those are all of it unless a write failed. No piece is out any more.
-pub record TakesAnswer (taken : Taken) (old new : OutputShown) : Type 0 where
-  pub count : taken.count ≤ length old.out
-  pub counted : new.counted ≡ old.counted ++ take taken.count old.out
-  pub written : Appends old.holds new.holds (take taken.count old.out)
-  pub whole : taken.error ≡ None → taken.count ≡ length old.out
-  pub home : (new.out ≡ []) × (new.is_out ≡ false)
+-- now, each once; those are all of it unless a write failed.
+pub record TakesAnswer (answer : Answer) (old new : OutputShown) : Type 0 where
+  pub count : answer.count ≤ length old.out
+  pub taken : new.taken ≡ old.taken ++ take answer.count old.out
+  pub written : Appends old.holds new.holds (take answer.count old.out)
+  pub whole : answer.error ≡ None → answer.count ≡ length old.out

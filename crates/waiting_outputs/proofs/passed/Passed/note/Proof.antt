@@ -30,15 +30,15 @@ use denote.Triple.Spec.{Meets, triple_of}
 use denote.Triple.Table.{entered}
 use denote.Triple.Walked.{says, Stays, stay_ref, stay_none_slice, walk_of, AllGo, Goes-ref}
 use denote.Triple.Walked.{Goes-none_slice, Walks, ends_at, walked, walk_Meets}
-use Rattle.waiting_outputs.specs.declared.counted.Counted.{Counted}
-use Rattle.waiting_outputs.specs.contracts.counted.Counted as T
-use Rattle.waiting_outputs.specs.contracts.counted.Counted.note.Key.{name as key}
-use Rattle.waiting_outputs.specs.contracts.counted.Counted.note as f
-use Rattle.waiting_outputs.proofs.counted.Counted.note.Statement as stated
-use Rattle.waiting_outputs.proofs.counted.Counted.note.Code as code
+use Rattle.waiting_outputs.specs.declared.passed.Passed.{Passed}
+use Rattle.waiting_outputs.specs.contracts.passed.Passed as T
+use Rattle.waiting_outputs.specs.contracts.passed.Passed.note.Key.{name as key}
+use Rattle.waiting_outputs.specs.contracts.passed.Passed.note as f
+use Rattle.waiting_outputs.proofs.passed.Passed.note.Statement as stated
+use Rattle.waiting_outputs.proofs.passed.Passed.note.Code as code
 
 abbrev Arg : Type 0
-Arg = MutBor Counted × (Bor (List ℕ) × Unit {0})
+Arg = MutBor Passed × (Bor (List ℕ) × Unit {0})
 
 abbrev stayed : Stays (f.ended).signature.params (f.ended).kept
 stayed = (
@@ -47,13 +47,13 @@ stayed = (
 )
 
 module _ {M : Type 1} {𝓤 : Ura M} (𝓛 : Logic 𝓤) (at_mem : Memory → SProp 𝓤) (run : Routine
-    → Fun 𝓤) (κ κ' : Lft) (q q' : Share) (b o : ℕ) (γ : GName) (h : Counted) (s : Bor (List ℕ)) where
+    → Fun 𝓤) (κ κ' : Lft) (q q' : Share) (b o : ℕ) (γ : GName) (h : Passed) (s : Bor (List ℕ)) where
   open 𝓛 use {H, A}
 
   abbrev x : Arg
   x = (record { ref_ptr = (b, o); ghost_name = γ; now = h }, (s, tt))
 
-  abbrev h' : Counted
+  abbrev h' : Passed
   h' = record { bytes = h.bytes ++ s.now }
 
   abbrev at : List Val × (List Val × Unit {0})

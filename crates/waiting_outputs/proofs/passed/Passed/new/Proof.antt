@@ -21,11 +21,11 @@ use denote.Triple.Entry.{on_entry, alive}
 use denote.Triple.Spec.{Meets, triple_of}
 use denote.Triple.Table.{entered}
 use denote.Triple.Walked.{says, Stays, walk_of, Walks, ends_at, walked, walk_Meets}
-use Rattle.waiting_outputs.specs.contracts.counted.Counted.new.Key.{name as key}
-use Rattle.waiting_outputs.specs.contracts.counted.Counted.new as f
-use Rattle.waiting_outputs.proofs.counted.Counted.new.Statement as stated
-use Rattle.waiting_outputs.proofs.counted.Counted.new.Code as code
-use Rattle.waiting_outputs.specs.contracts.counted.Counted as made
+use Rattle.waiting_outputs.specs.contracts.passed.Passed.new.Key.{name as key}
+use Rattle.waiting_outputs.specs.contracts.passed.Passed.new as f
+use Rattle.waiting_outputs.proofs.passed.Passed.new.Statement as stated
+use Rattle.waiting_outputs.proofs.passed.Passed.new.Code as code
+use Rattle.waiting_outputs.specs.contracts.passed.Passed as made
 
 abbrev stayed : Stays (f.ended).signature.params (f.ended).kept
 stayed = tt

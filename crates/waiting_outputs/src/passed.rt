@@ -4,25 +4,27 @@ ghost use Rattle.std.specs.Borrow.{ftrue};
 
 use std::marker::Model;
 
+/// The bytes that went through an open file, in their order. It takes no memory: contracts alone know them.
 #[derive(Drop)]
-pub(crate) struct Counted {
-    pub(crate) ghost bytes: { List ℕ },
+pub struct Passed {
+    /// These bytes.
+    pub ghost bytes: { List ℕ },
 }
 
-impl Model for Counted {
+impl Model for Passed {
     ghost also_owns = { λ _. ftrue };
 }
 
-impl Counted {
-    // Nothing went through.
-    pub(crate) fn new() -> Counted
+impl Passed {
+    /// Nothing went through.
+    pub fn new() -> Passed
         ensures { result.bytes ≡ [] }
     {
-        Counted {}
+        Passed {}
     }
 
-    // Notes that these bytes went through after the others.
-    pub(crate) fn note(&mut self, _bytes: &[u8])
+    /// Notes that these bytes went through after the others.
+    pub fn note(&mut self, _bytes: &[u8])
         ensures { self.new.bytes ≡ self.old.bytes ++ _bytes.now }
     {}
 }
