@@ -10,5 +10,6 @@ pub mod Places
 pub mod Standard
 pub mod Limits
 pub mod Readable
+pub mod Served
 pub mod Writable
 pub mod Tries

@@ -7,20 +7,18 @@ use crate::facts::{Facts, Kind};
 use crate::handle::HostHandle;
 use crate::logged::{LoggedInput, Waiting};
 use crate::mounts::Mounts;
-use crate::patient::{HostReader, Nap, Patient};
+use crate::patient::HostReader;
 use crate::streams::StandardStreams;
 use crate::writable::Stores;
 use collector::{Batch, Files, IoFailed, NeededEnd, NotOpened, Opening, Readiness};
 use input::{HostInput, add_reading, ask_each, opened, wait_here};
 use machine::NoMemory;
 use output::{
-    HostOutput, add_opening, begun, end_held_at, finish_at, finish_opening, leave_all, note_held,
-    place_at,
+    HostOutput, add_waiting, begun, end_held_at, finish_at, leave_all, note_end_at, place_at,
 };
 use run_types::{InName, OutName, Placing};
 use std::alloc::Global;
 use std::fs::{File, OpenOptions};
-use std::io::writer;
 use std::marker::Model;
 use std::rt;
 use waiting_inputs::Inputs;
@@ -30,6 +28,7 @@ mod holding;
 mod input;
 mod output;
 mod report;
+mod writing;
 
 /// The files of the host, its standard input and output. Contracts know what their reads returned and what their writes took, and nothing
 /// of what the file of a name holds. A name that is not UTF-8 is refused. A directory is
@@ -37,8 +36,9 @@ mod report;
 /// A FIFO, a terminal or a socket is refused as an input if it is open as one, under whatever name. No name leads to the standard input or output.
 /// An input whose reads may wait, as a FIFO, a socket or a terminal, is read by the caller as long as it is the only file to wait for. Once
 /// something else may go on meanwhile, it is read by a thread of its own, if it gets one. A FIFO of the file system is opened by what reads it.
+/// An output whose writes may wait is written by a thread of its own while another output has not come to its end. One that is held back is not.
 #[derive(Drop)]
-pub struct HostFiles<R, I> {
+pub struct HostFiles<R: HostHandle, I> {
     rt: R,
     alloc: Global,
     streams: StandardStreams,
@@ -46,6 +46,8 @@ pub struct HostFiles<R, I> {
     openings: Vec<Opening>,
     inputs: Vec<HostInput<R>>,
     outputs: Vec<HostOutput<R>>,
+    // How many outputs have not come to their ends.
+    unended: usize,
     mounts: Mounts,
     // Whether an output was opened that was there before, while nothing is known of a standard stream.
     has_old_output: bool,
@@ -58,7 +60,7 @@ pub struct HostFiles<R, I> {
     last_error: ErrorNumber,
 }
 
-impl<R, I> Model for HostFiles<R, I> {
+impl<R: HostHandle, I> Model for HostFiles<R, I> {
     ghost use Rattle.run_types.specs.Placings.{is_held};
     ghost use Rattle.file_stores.specs.inner.Host.{HostShown};
 
@@ -87,6 +89,7 @@ impl<R: HostHandle, I: Inputs<HostReader<R>>> HostFiles<R, I> {
             openings: Vec::new(alloc),
             inputs: Vec::new(alloc),
             outputs: Vec::new(alloc),
+            unended: 0,
             mounts: Mounts::new(),
             has_old_output: false,
             failures: 0,
@@ -112,11 +115,11 @@ impl<R: HostHandle, I: Inputs<HostReader<R>>> HostFiles<R, I> {
         self.last_error
     }
 
-    // The numbers of the threads that read these inputs, and that open these outputs.
+    // The numbers of the threads that read these inputs, and that these outputs wait for.
     fn threads_of(&self, inputs: &[usize], outputs: &[usize]) -> Result<Vec<usize>, NoMemory> {
         let mut threads = Vec::new(self.alloc);
         add_reading(self.inputs.as_slice(), inputs, &mut threads)?;
-        add_opening(self.outputs.as_slice(), outputs, &mut threads)?;
+        add_waiting(self.outputs.as_slice(), outputs, &mut threads)?;
         Ok(threads)
     }
 
@@ -137,7 +140,7 @@ impl<R: HostHandle, I: Inputs<HostReader<R>>> HostFiles<R, I> {
             return Ok(());
         };
         let facts = output.facts;
-        let is_standard = output.logged.is_standard();
+        let is_standard = output.is_standard;
         let is_stored = output.is_stored(self.placing);
         let may_lose = self.mounts.may_lose(&self.rt, self.alloc, facts);
         match ending_of(is_standard, may_lose & !is_stored, facts) {
@@ -233,6 +236,7 @@ impl<R: HostHandle, I: Inputs<HostReader<R>>> Files for HostFiles<R, I> {
                 self.openings
                     .push_reserved(Opening::Output(entry, Some(number)));
                 self.outputs.push_reserved(output);
+                self.unended = self.unended.saturating_add(1);
                 Ok(number)
             }
             Err(NotOpened::NoMemory) => Err(NotOpened::NoMemory),
@@ -256,24 +260,36 @@ impl<R: HostHandle, I: Inputs<HostReader<R>>> Files for HostFiles<R, I> {
 
     fn write(&mut self, file: usize, from: &[u8]) -> Result<usize, IoFailed> {
         let output = &mut self.outputs[file];
-        finish_opening(&mut output.opening, &mut self.waiting);
-        let is_standard = output.logged.is_standard();
-        let mut standard = Patient::new(writer(&self.rt), Nap(self.rt));
-        match output.logged.write(&mut standard, from) {
-            Ok(count) => {
-                note_held(&mut output.held, count);
-                Ok(count)
-            }
+        let is_standard = output.is_standard;
+        match output.write(&mut self.waiting, from) {
+            Ok(count) => Ok(count),
             Err(error) => Err(self.fail_write(is_standard, error)),
         }
     }
 
-    #[tactic(auto, using(crate::proofs::lemmas::Settled::host_out, crate::proofs::lemmas::Settled::host_settles, crate::proofs::lemmas::Settled::host_stays))]
-    fn settle(&mut self, _file: usize) -> Result<Option<Batch>, IoFailed> {
-        Ok(None)
+    fn hand_over(&mut self, file: usize, batch: Batch) -> Result<(), Batch> {
+        if self.unended < 2 {
+            return Err(batch);
+        }
+        self.outputs[file].hand_over(&self.rt, self.alloc, &mut self.waiting, batch)
+    }
+
+    fn settle(&mut self, file: usize) -> Result<Option<Batch>, IoFailed> {
+        if file >= self.outputs.len() {
+            return Ok(None);
+        }
+        let output = &mut self.outputs[file];
+        let is_standard = output.is_standard;
+        match output.settle(&self.rt, &mut self.waiting) {
+            Ok(batch) => Ok(batch),
+            Err(error) => Err(self.fail_write(is_standard, error)),
+        }
     }
 
     fn finish_output(&mut self, file: usize) -> Result<(), IoFailed> {
+        if note_end_at(&mut self.outputs, file) {
+            self.unended = self.unended.saturating_sub(1);
+        }
         match self.end_output(file) {
             Ok(()) => Ok(()),
             Err(error) => Err(self.fail(error)),

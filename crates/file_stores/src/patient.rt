@@ -6,6 +6,8 @@ ghost use Rattle.file_stores.specs.inner.Tries.{MayBeMadeAgain, IsTriedAgain};
 
 use crate::placed::LeavesPart;
 use crate::readable::Readable;
+use crate::served::Served;
+use crate::standard_output::StandardOutput;
 use crate::tries::{TryRead, TryWrite};
 use crate::writable::Writable;
 use collector::NeededEnd;
@@ -47,14 +49,14 @@ impl<R: Clock + Drop> Pause for Nap<R> {
 // What the host reads: the system's files, and its standard input. It is in a box, since a lock on it holds 8 KiB.
 pub(crate) type HostReadable = Readable<File, Box<StdinLock<'static>>>;
 
-// What the host writes: the system's files.
-pub(crate) type HostWritable<R> = Writable<File, R>;
+// What the host writes: the system's files, and its standard output.
+pub(crate) type HostWritable<R> = Writable<File, StandardOutput<R>>;
 
-/// A reader of the host. It waits for what would block.
-pub type HostReader<R> = Patient<HostReadable, Nap<R>>;
+/// A reader of the host, which waits for what would block, or a thread that writes to an output of the host.
+pub type HostReader<R> = Served<Patient<HostReadable, Nap<R>>, HostWriter<R>>;
 
-// A writer of the host. It waits for what would block.
-pub(crate) type HostWriter<R> = Patient<HostWritable<R>, Nap<R>>;
+/// A writer of the host. It waits for what would block.
+pub type HostWriter<R> = Patient<HostWritable<R>, Nap<R>>;
 
 /// A reader or a writer whose calls are made again if a signal interrupted them (POSIX.1-2017 XSH read, write, EINTR), or if they would have
 /// blocked (EAGAIN): then after a pause. Contracts see what it reads or writes.

@@ -1,6 +1,6 @@
 // Readers and writers that are called once at a time.
 use std::fs::File;
-use std::io::{self, Print, Printer, Read, StdinLock, Write};
+use std::io::{self, Read, StdinLock, Write};
 
 /// A reader that is read once at a time. Contracts may know the errors of its reads that failed.
 pub trait TryRead: Read {
@@ -51,12 +51,6 @@ impl TryRead for Box<StdinLock<'static>> {
 }
 
 impl TryWrite for File {
-    fn try_write(&mut self, from: &[u8]) -> io::Result<usize> {
-        self.write(from)
-    }
-}
-
-impl<P: Print> TryWrite for Printer<'_, P> {
     fn try_write(&mut self, from: &[u8]) -> io::Result<usize> {
         self.write(from)
     }

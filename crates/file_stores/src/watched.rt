@@ -22,6 +22,11 @@ pub trait Watch: Drop {
     /// The standard output is about to be written.
     fn begin_output(&mut self) {}
 
+    /// Whether it has to know of each write to the standard output before that is made, so that no thread may make it meanwhile.
+    fn minds_output(&self) -> bool {
+        false
+    }
+
     /// These bytes were written to the standard output. They are counted by `note_written`, which comes next.
     fn note_output(&mut self, _bytes: &[u8]) {}
 
@@ -61,6 +66,13 @@ impl<W: Watch> Watch for Option<W> {
     fn begin_output(&mut self) {
         if let Some(watch) = self {
             watch.begin_output();
+        }
+    }
+
+    fn minds_output(&self) -> bool {
+        match self {
+            Some(watch) => watch.minds_output(),
+            None => false,
         }
     }
 
@@ -160,6 +172,12 @@ fn note_write<W: Watch>(watch: &mut W, is_standard: bool, bytes: &[u8], count: u
     watch.note_written(count);
 }
 
+// Tells a watch that a file took all of what was handed over.
+fn note_settled<W: Watch>(watch: &mut W, is_standard: bool, batch: &Batch) {
+    let bytes = batch.bytes();
+    note_write(watch, is_standard, bytes, bytes.len());
+}
+
 impl<F: Files, W: Watch> Files for Watched<F, W> {
     ghost contents_known = { F.contents_known };
 
@@ -220,12 +238,20 @@ impl<F: Files, W: Watch> Files for Watched<F, W> {
         written
     }
 
+    // The standard output is written by the caller, if the watch is to know before that.
     fn hand_over(&mut self, file: usize, batch: Batch) -> Result<(), Batch> {
+        if self.standard == Some(file) && self.watch.minds_output() {
+            return Err(batch);
+        }
         self.inside.hand_over(file, batch)
     }
 
     fn settle(&mut self, file: usize) -> Result<Option<Batch>, IoFailed> {
-        self.inside.settle(file)
+        let settled = self.inside.settle(file);
+        if let Ok(Some(batch)) = &settled {
+            note_settled(&mut self.watch, self.standard == Some(file), batch);
+        }
+        settled
     }
 
     fn finish_output(&mut self, file: usize) -> Result<(), IoFailed> {

@@ -7,60 +7,61 @@ ghost use Rattle.file_stores.specs.inner.Tries.{IsTried};
 
 use crate::fifo::{AtFifo, Fifo};
 use crate::tries::TryWrite;
-use crossbeam_channel::{Receiver, Sender, bounded};
+use rtrb::{Consumer, Producer, RingBuffer};
 use std::alloc::{AllocError, Global};
 use std::fs::File;
 use std::io::{self, ErrorKind, Write};
-use std::sync::Wait;
 
 // The result of an opening.
 type Opened<F> = Result<F, ErrorKind>;
 
-// The task that opens a FIFO to write to it, and sends the file.
+// The task that opens a FIFO to write to it, and passes the file on.
 #[derive(Drop)]
 pub(crate) struct Opener<F> {
     fifo: Fifo,
     append: bool,
     // None once it was opened.
-    to: Option<Sender<Opened<F>>>,
+    to: Option<Producer<Opened<F>>>,
 }
 
 impl<F: Drop> Opener<F> {
     // Opens it, the first time. This waits for its reader.
-    pub(crate) fn open<R: Wait>(&mut self, rt: &R)
+    pub(crate) fn open<R>(&mut self, rt: &R)
     where
         F: AtFifo<R>,
     {
-        if let Some(to) = self.to.take() {
+        if let Some(mut to) = self.to.take() {
             let opened = match F::to_write(&self.fifo, rt, self.append) {
                 Ok(file) => Ok(file),
                 Err(error) => Err(error.kind()),
             };
-            // If nobody receives it, nobody wants to write.
-            let _ = to.send(rt, opened);
+            // There is room for it, since it is the first.
+            let _ = to.push(opened);
         }
     }
 }
 
-// What an output is written to: an open file, or a FIFO that is being opened. Contracts see the bytes that files like `F` hold.
+/// What an output is written to: an open file, the standard output, or a FIFO that is being opened. Contracts see the bytes that files like `F`,
+/// and a standard output like `S`, hold.
 #[derive(Drop)]
-pub(crate) struct Writable<F, R> {
-    to: WriteTo<F, R>,
+pub struct Writable<F, S> {
+    to: WriteTo<F, S>,
 }
 
 // What is written to.
 #[derive(Drop)]
-enum WriteTo<F, R> {
+enum WriteTo<F, S> {
     // An open file.
     File(F),
+    // The standard output.
+    Standard(S),
     // A FIFO of the file system.
-    Fifo(AwaitedFile<F, R>),
+    Fifo(AwaitedFile<F>),
 }
 
 // A FIFO that another thread opens.
 #[derive(Drop)]
-struct AwaitedFile<F, R> {
-    rt: R,
+struct AwaitedFile<F> {
     state: Awaited<F>,
 }
 
@@ -68,7 +69,7 @@ struct AwaitedFile<F, R> {
 #[derive(Drop)]
 enum Awaited<F> {
     // The file comes from here, or the cause of the failure.
-    Opening(Receiver<Opened<F>>),
+    Opening(Consumer<Opened<F>>),
     // It is open.
     Open(F),
     // It could not be opened.
@@ -77,26 +78,31 @@ enum Awaited<F> {
     Closed,
 }
 
-impl<F, R> Writable<F, R> {
+impl<F, S> Writable<F, S> {
     // An open file.
-    pub(crate) fn file(file: F) -> Writable<F, R> {
+    pub(crate) fn file(file: F) -> Writable<F, S> {
         Writable {
             to: WriteTo::File(file),
+        }
+    }
+
+    // The standard output.
+    pub(crate) fn standard(to: S) -> Writable<F, S> {
+        Writable {
+            to: WriteTo::Standard(to),
         }
     }
 }
 
 // A FIFO to write to, and the task that opens it.
-pub(crate) fn writable_fifo<F: Drop, R: Copy + Drop>(
-    rt: R,
+pub(crate) fn writable_fifo<F: Drop, S>(
     alloc: Global,
     fifo: Fifo,
     append: bool,
-) -> Result<(Writable<F, R>, Opener<F>), AllocError> {
-    let (to, from) = bounded(alloc, 1)?;
+) -> Result<(Writable<F, S>, Opener<F>), AllocError> {
+    let (to, from) = RingBuffer::new(alloc, 1)?;
     let writable = Writable {
         to: WriteTo::Fifo(AwaitedFile {
-            rt,
             state: Awaited::Opening(from),
         }),
     };
@@ -109,9 +115,9 @@ pub(crate) fn writable_fifo<F: Drop, R: Copy + Drop>(
 }
 
 // It is flushed once, after all that is written. That stores the bytes of a file. A FIFO is closed then, once it is open, since its reader waits
-// for the end.
-impl<F: Stores + Drop, R: Wait> Write for Writable<F, R> {
-    ghost contents = { λ w. held_in F.Write.contents w.to };
+// for the end. The standard output stays as it is.
+impl<F: Stores + Drop, S: TryWrite + Drop> Write for Writable<F, S> {
+    ghost contents = { λ w. held_in F.Write.contents S.Write.contents w.to };
 
     fn write(&mut self, from: &[u8]) -> io::Result<usize> {
         self.try_write(from)
@@ -120,32 +126,34 @@ impl<F: Stores + Drop, R: Wait> Write for Writable<F, R> {
     fn flush(&mut self) -> io::Result<()> {
         match &mut self.to {
             WriteTo::File(file) => file.store(),
+            WriteTo::Standard(_) => Ok(()),
             WriteTo::Fifo(awaited) => awaited.close(),
         }
     }
 }
 
-impl<F: Stores + Drop, R: Wait> TryWrite for Writable<F, R> {
-    ghost failed = { λ w. failed_in F.TryWrite.failed w.to };
+impl<F: Stores + Drop, S: TryWrite + Drop> TryWrite for Writable<F, S> {
+    ghost failed = { λ w. failed_in F.TryWrite.failed S.failed w.to };
 
     fn try_write(&mut self, from: &[u8]) -> io::Result<usize>
         ensures bound { WritesAtMost result from.now }
-        ensures bytes { WriteAppends (held_in F.Write.contents self.old.to)
-            (held_in F.Write.contents self.new.to) result from.now }
-        ensures now { WriteAppends (held_now F.Write.contents self.old.to)
-            (held_now F.Write.contents self.new.to) result from.now }
-        ensures tried { IsTried (failed_in F.TryWrite.failed self.old.to)
-            (failed_in F.TryWrite.failed self.new.to) result }
+        ensures bytes { WriteAppends (held_in F.Write.contents S.Write.contents self.old.to)
+            (held_in F.Write.contents S.Write.contents self.new.to) result from.now }
+        ensures now { WriteAppends (held_now F.Write.contents S.Write.contents self.old.to)
+            (held_now F.Write.contents S.Write.contents self.new.to) result from.now }
+        ensures tried { IsTried (failed_in F.TryWrite.failed S.failed self.old.to)
+            (failed_in F.TryWrite.failed S.failed self.new.to) result }
     {
         match &mut self.to {
             WriteTo::File(file) => file.try_write(from),
+            WriteTo::Standard(to) => to.try_write(from),
             WriteTo::Fifo(awaited) => awaited.try_write(from),
         }
     }
 }
 
-impl<F: TryWrite + Drop, R: Wait> AwaitedFile<F, R> {
-    // Writes once, once it is open. It fails if it could not be opened.
+impl<F: TryWrite + Drop> AwaitedFile<F> {
+    // Writes once. It fails if it could not be opened. It would block if it is not open yet.
     fn try_write(&mut self, from: &[u8]) -> io::Result<usize>
         ensures bound { WritesAtMost result from.now }
         ensures bytes { WriteAppends (option_and_then F.Write.contents (open_file self.old.state))
@@ -153,41 +161,51 @@ impl<F: TryWrite + Drop, R: Wait> AwaitedFile<F, R> {
         ensures tried { IsTried (option_and_then F.failed (open_file self.old.state))
             (option_and_then F.failed (open_file self.new.state)) result }
     {
-        self.wait_for_file();
+        self.take_file();
         match &mut self.state {
             Awaited::Open(file) => file.try_write(from),
+            Awaited::Opening(_) => Err(io::Error::from(ErrorKind::WouldBlock)),
             Awaited::Failed(kind) => Err(io::Error::from(*kind)),
-            Awaited::Opening(_) | Awaited::Closed => Err(io::Error::from(ErrorKind::Other)),
+            Awaited::Closed => Err(io::Error::from(ErrorKind::Other)),
         }
     }
 }
 
-impl<F: Drop, R: Wait> AwaitedFile<F, R> {
-    // Closes it, once it is open. It fails if it could not be opened.
+impl<F: Drop> AwaitedFile<F> {
+    // Closes it. It fails if it could not be opened, or is not open yet.
     fn close(&mut self) -> io::Result<()> {
-        self.wait_for_file();
+        self.take_file();
         match &self.state {
             Awaited::Open(_) => {}
+            Awaited::Opening(_) => return Err(io::Error::from(ErrorKind::WouldBlock)),
             Awaited::Failed(kind) => return Err(io::Error::from(*kind)),
-            Awaited::Opening(_) | Awaited::Closed => {
-                return Err(io::Error::from(ErrorKind::Other));
-            }
+            Awaited::Closed => return Err(io::Error::from(ErrorKind::Other)),
         }
         self.state = Awaited::Closed;
         Ok(())
     }
 
-    // Waits until it is open, or could not be opened. An open file stays as it is.
-    fn wait_for_file(&mut self)
+    // Takes its file, if that has come and was not taken. An open file stays as it is.
+    fn take_file(&mut self)
         ensures { IfSome (open_file self.old.state) (λ file. open_file self.new.state ≡ Some file) }
     {
-        if let Awaited::Opening(from) = &self.state {
-            self.state = match from.recv(&self.rt) {
-                Ok(Ok(file)) => Awaited::Open(file),
-                Ok(Err(kind)) => Awaited::Failed(kind),
-                Err(_) => Awaited::Failed(ErrorKind::Other),
-            };
+        if let Awaited::Opening(from) = &mut self.state
+            && let Some(state) = come_from(from)
+        {
+            self.state = state;
         }
+    }
+}
+
+// The open file that has come from here, or the cause of the failure. None if neither has come yet.
+fn come_from<F: Drop>(from: &mut Consumer<Opened<F>>) -> Option<Awaited<F>> {
+    // Nothing comes after that, so this is asked first.
+    let is_over = from.is_abandoned();
+    match from.pop() {
+        Ok(Ok(file)) => Some(Awaited::Open(file)),
+        Ok(Err(kind)) => Some(Awaited::Failed(kind)),
+        Err(_) if is_over => Some(Awaited::Failed(ErrorKind::Other)),
+        Err(_) => None,
     }
 }
 

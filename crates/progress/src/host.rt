@@ -183,6 +183,10 @@ impl<R: rt::Files + Clock + Eprint + Drop, W: LineThread> Watch for HostWatch<R,
         }
     }
 
+    fn minds_output(&self) -> bool {
+        self.is_shared
+    }
+
     fn note_output(&mut self, bytes: &[u8]) {
         if let (true, Some(last)) = (self.is_shared, bytes.last()) {
             self.is_amid_line = *last != b'\n';

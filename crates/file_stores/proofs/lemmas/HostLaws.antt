@@ -5,10 +5,10 @@ use Rattle.std.specs.Prelude.{slice_get}
 use Rattle.std.proofs.lemmas.Option.{slice_get-get_or}
 use Rattle.collector.specs.Files.{FilesShown, ReadLog, nothing_read, Reads, ReadsOnly, WritesOnly}
 use Rattle.collector.specs.Files.{SameContents, WriteLog, nothing_written, reads_of, writes_of}
+use Rattle.collector.specs.Files.{log_of}
 use Rattle.collector.specs.declared.needed.LeftOut.{LeftOut}
 use Rattle.collector.specs.declared.needed.LeftOut.TheVariants.{Nothing}
-use Rattle.file_stores.specs.inner.Host.{HostInputShown, HostShown, shown_host}
-use Rattle.file_stores.specs.inner.Opened.{written_log}
+use Rattle.file_stores.specs.inner.Host.{HostInputShown, HostOutputShown, HostShown, shown_host}
 use Rattle.file_stores.proofs.lemmas.Holdings.{reads_go_on}
 use Rattle.file_stores.proofs.lemmas.Numbers.{log_at, log_set, log_set_others, log_set_same}
 use Rattle.file_stores.proofs.lemmas.Numbers.{log_within}
@@ -76,52 +76,58 @@ module _ (file : ℕ) (held old new : HostShown) (is : held ≡ old) where
       reads = λ content is was. cc;
     }
 
-  module _ (own was now more : List ℕ) (opened : IsSome ((shown_host old).outputs file))
-      (shows : own ≡ was) (log : was ≡ get_or held.outputs file was)
-      (after : new ≡ record held { outputs = set held.outputs file now })
-      (told : now ≡ own ++ more) where
-    writes_after : new ≡ record old { outputs = set old.outputs file now }
+  module _ (was now : HostOutputShown) (opened : IsSome ((shown_host old).outputs file))
+      (log : was ≡ get_or held.outputs file was)
+      (after : new ≡ record held { outputs = set held.outputs file now }) where
+    pub writes_after : new ≡ record old { outputs = set old.outputs file now }
     writes_after = after ∙ ap (λ (h : HostShown). record h { outputs = set h.outputs file now }) is
 
     open_at : file < length old.outputs
-    open_at = log_within written_log old.outputs file opened
+    open_at = log_within (λ (o : HostOutputShown). o.log) old.outputs file opened
 
-    taken_is : own ≡ get_or old.outputs file was
-    taken_is = shows ∙ subst (λ (h : HostShown). was ≡ get_or h.outputs file was) is log
+    output_is : was ≡ get_or old.outputs file was
+    output_is = subst (λ (h : HostShown). was ≡ get_or h.outputs file was) is log
 
-    taken_before : writes_of (shown_host old) file ≡ own
-    taken_before = ap (λ (o : Option WriteLog). (unwrap_or o nothing_written).bytes)
-        (log_at written_log old.outputs file was open_at) ∙ sym taken_is
+    -- the record of the output was this one
+    pub log_before : log_of (shown_host old) file ≡ was.log
+    log_before = ap (λ (o : Option WriteLog). unwrap_or o nothing_written)
+        (log_at (λ (o : HostOutputShown). o.log) old.outputs file was open_at)
+        ∙ ap (λ (o : HostOutputShown). o.log) (sym output_is)
 
-    taken_at : (shown_host new).outputs file ≡ Some (written_log now)
-    taken_at = ap (λ (h : HostShown). (shown_host h).outputs file) writes_after
-        ∙ log_set written_log old.outputs file now open_at
+    pub log_there : (shown_host new).outputs file ≡ Some now.log
+    log_there = ap (λ (h : HostShown). (shown_host h).outputs file) writes_after
+        ∙ log_set (λ (o : HostOutputShown). o.log) old.outputs file now open_at
 
-    pub host_took : writes_of (shown_host new) file ≡ writes_of (shown_host old) file ++ more
-    host_took = ap (λ (o : Option WriteLog). (unwrap_or o nothing_written).bytes) taken_at ∙ told
-        ∙ ap (λ (l : List ℕ). l ++ more) (sym taken_before)
+    -- and it is that one now
+    pub log_after : log_of (shown_host new) file ≡ now.log
+    log_after = ap (λ (o : Option WriteLog). unwrap_or o nothing_written) log_there
 
-    pub host_writes : WritesOnly file (shown_host old) (shown_host new)
-    host_writes = record {
-      openings = ap (λ (h : HostShown). h.openings) writes_after;
-      still = subst (λ (o : Option WriteLog). IsSome o) (sym taken_at) refl;
-      grows = record { more = more; log = host_took; content = λ d held t was. cc };
-      inputs = λ k. ap (λ (h : HostShown). (shown_host h).inputs k) writes_after;
-      outputs = λ k ne. ap (λ (h : HostShown). (shown_host h).outputs k) writes_after
-          ∙ log_set_others written_log old.outputs file now k ne;
-      targets = λ k. refl;
-      held = record {
-        standard_input = refl;
-        held = λ k. refl;
-        left_out = λ k. ap (λ (h : HostShown). (shown_host h).left_out k) writes_after;
-      };
-      others = λ d t. refl;
-      places = record {
-        held_back = ap (λ (h : HostShown). h.held_back) writes_after;
-        in_place =
-            λ back name. refl;
-      };
-    }
+    module _ (more : List ℕ) (told : now.log.bytes ≡ was.log.bytes ++ more) where
+      pub host_took : writes_of (shown_host new) file ≡ writes_of (shown_host old) file ++ more
+      host_took = ap (λ (l : WriteLog). l.bytes) log_after ∙ told
+          ∙ ap (λ (l : WriteLog). l.bytes ++ more) (sym log_before)
+
+      pub host_writes : WritesOnly file (shown_host old) (shown_host new)
+      host_writes = record {
+        openings = ap (λ (h : HostShown). h.openings) writes_after;
+        still = subst (λ (o : Option WriteLog). IsSome o) (sym log_there) refl;
+        grows = record { more = more; log = host_took; content = λ d held t was. cc };
+        inputs = λ k. ap (λ (h : HostShown). (shown_host h).inputs k) writes_after;
+        outputs = λ k ne. ap (λ (h : HostShown). (shown_host h).outputs k) writes_after
+            ∙ log_set_others (λ (o : HostOutputShown). o.log) old.outputs file now k ne;
+        targets = λ k. refl;
+        held = record {
+          standard_input = refl;
+          held = λ k. refl;
+          left_out = λ k. ap (λ (h : HostShown). (shown_host h).left_out k) writes_after;
+        };
+        others = λ d t. refl;
+        places = record {
+          held_back = ap (λ (h : HostShown). h.held_back) writes_after;
+          in_place =
+              λ back name. refl;
+        };
+      }
 
 -- failures tell nothing of what was written
 pub other_failures : (file f : ℕ) (a : FilesShown) (mid : HostShown)

@@ -6,7 +6,6 @@ use Rattle.std.specs.Prelude.{slice_get, IsSome}
 use Rattle.collector.specs.Files.{WriteLog, WritesOnly, SettlesAll, log_of, nothing_written}
 use Rattle.collector.specs.Files.{out_of}
 use Rattle.collector.proofs.Logs.{writes_none}
-use Rattle.file_stores.specs.inner.Host.{HostShown, shown_host}
 use Rattle.file_stores.specs.inner.Memory.{MemoryShown, shown_files}
 use Rattle.file_stores.specs.inner.Opened.{OpenedOutput, written_log}
 
@@ -15,12 +14,9 @@ out_none : {A : Type 0} (f : A → List ℕ) (o : Option A)
 out_none f None = refl
 out_none f (Some a) = refl
 
--- nothing is out of files in memory, nor of those of the host
+-- nothing is out of files in memory
 pub memory_out : (m : MemoryShown) (file : ℕ) → out_of (shown_files m) file ≡ []
 memory_out m file = out_none (λ (o : OpenedOutput). o.taken) (slice_get m.outputs file)
-
-pub host_out : (h : HostShown) (file : ℕ) → out_of (shown_host h) file ≡ []
-host_out h file = out_none (λ (l : List ℕ). l) (slice_get h.outputs file)
 
 -- so there is nothing to settle
 settles_none : (log : WriteLog) → log.out ≡ [] → SettlesAll log log
@@ -34,14 +30,6 @@ pub memory_settles : (m : MemoryShown) (file : ℕ)
     → SettlesAll (log_of (shown_files m) file) (log_of (shown_files m) file)
 memory_settles m file = settles_none (log_of (shown_files m) file) (memory_out m file)
 
-pub host_settles : (h : HostShown) (file : ℕ)
-    → SettlesAll (log_of (shown_host h) file) (log_of (shown_host h) file)
-host_settles h file = settles_none (log_of (shown_host h) file) (host_out h file)
-
 pub memory_stays : (m : MemoryShown) (file : ℕ) → IsSome ((shown_files m).outputs file)
     → WritesOnly file (shown_files m) (shown_files m)
 memory_stays m file open_ = writes_none file (shown_files m) open_
-
-pub host_stays : (h : HostShown) (file : ℕ) → IsSome ((shown_host h).outputs file)
-    → WritesOnly file (shown_host h) (shown_host h)
-host_stays h file open_ = writes_none file (shown_host h) open_

@@ -2,11 +2,10 @@
 -- what the reads returned and the writes took, and what failed.
 use Rattle.std.specs.Prelude.{ℕ, Bool, List, None, slice_get, unwrap_or}
 use Rattle.std.specs.Option.{option_map}
-use Rattle.collector.specs.Files.{FilesShown, ReadLog, nothing_read}
+use Rattle.collector.specs.Files.{FilesShown, ReadLog, WriteLog, nothing_read}
 use Rattle.collector.specs.declared.needed.LeftOut.{LeftOut}
 use Rattle.collector.specs.declared.needed.LeftOut.TheVariants.{Nothing}
 use Rattle.collector.specs.declared.names.Opening.{Opening}
-use Rattle.file_stores.specs.inner.Opened.{written_log}
 
 -- an open input: what its reads returned, and whether a front of it was left out
 pub record HostInputShown : Type 0 where
@@ -17,12 +16,16 @@ pub record HostInputShown : Type 0 where
 abbrev pub opened_now : HostInputShown
 opened_now = record { log = nothing_read; left = Nothing }
 
--- the openings so far, each open input, what the writes of each output took, the failures, and
--- whether outputs are held back
+-- an open output: what its writes took, and what is out
+pub record HostOutputShown : Type 0 where
+  pub log : WriteLog
+
+-- the openings so far, each open input, each open output, the failures, and whether outputs are held
+-- back
 pub record HostShown : Type 0 where
   pub openings : List Opening
   pub inputs : List HostInputShown
-  pub outputs : List (List ℕ)
+  pub outputs : List HostOutputShown
   pub failures : ℕ
   pub held_back : Bool
 
@@ -31,7 +34,7 @@ abbrev pub shown_host : HostShown → FilesShown
 shown_host h = record {
   openings = h.openings;
   inputs = λ file. option_map (λ i. i.log) (slice_get h.inputs file);
-  outputs = λ file. option_map written_log (slice_get h.outputs file);
+  outputs = λ file. option_map (λ o. o.log) (slice_get h.outputs file);
   targets = λ file. None;
   contents = λ d. None;
   standard_input = None;

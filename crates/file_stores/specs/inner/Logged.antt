@@ -1,9 +1,7 @@
--- Open files of any reader and any writer, each with a record of what went through it. Clauses use
--- std's words: the bytes that a reader has left, and those that a writer holds, if they are known.
-use Rattle.std.specs.Prelude.{◌≡◌, ◌≢◌, ℕ, List, length, Option, Some, None, Result, Bool, true}
-use Rattle.std.specs.Prelude.{false}
+-- Open inputs of any reader, each with a record of what its reads returned. Clauses use std's words:
+-- the bytes that a reader has left, if they are known.
+use Rattle.std.specs.Prelude.{◌≡◌, ◌≢◌, ℕ, List, length, Option, Some, None, Bool, true, false}
 use Rattle.std.specs.Option.{option_map}
-use Rattle.std.specs.Io.KnownBytes.{WriteAppends, Keeps}
 use Rattle.collector.specs.Files.{ReadLog}
 use Rattle.collector.specs.declared.needed.LeftOut.{LeftOut}
 use Rattle.waiting_inputs.specs.Inputs.{Lefts, left_at, ReadsNext, AddsInput}
@@ -18,11 +16,6 @@ pub record InputShown (F : Type 0) : Type 0 where
   pub from : InFrom F
   pub log : ReadLog
   pub left : LeftOut
-
--- an open output: its file, or none for the standard output, and what its writes took
-pub record OutputShown (F : Type 0) : Type 0 where
-  pub to : Option F
-  pub taken : List ℕ
 
 -- the number of the thread that reads an input, if one does
 abbrev pub thread_of : {F : Type 0} → InFrom F → Option ℕ
@@ -98,21 +91,3 @@ pub record ReadsOnce {F : Type 0} (remaining : F → Option (List ℕ)) (result 
   pub delay : delay_of from' ≡ option_map once_read (delay_of from)
   pub others : (other : ℕ) → thread_of from ≢ Some other → left_at new other ≡ left_at old other
   pub count : length new ≡ length old
-
--- An output was written once: its file, and then the standard output stays as it was; or the
--- standard output, if it has no file.
-abbrev pub WritesOnce : {F S E : Type 0} → (F → Option (List ℕ)) → (S → Option (List ℕ))
-    → Result ℕ E → List ℕ → Option F → Option F → S → S → Type 0
-WritesOnce of_file of_standard result bytes (Some file) (Some file') old new =
-    WriteAppends (of_file file) (of_file file') result bytes × (new ≡ old)
-WritesOnce of_file of_standard result bytes None None old new =
-    WriteAppends (of_standard old) (of_standard new) result bytes
-WritesOnce of_file of_standard result bytes (Some file) None old new = ⊥
-WritesOnce of_file of_standard result bytes None (Some file) old new = ⊥
-
--- An output was written no more: its file keeps what it holds.
-abbrev pub KeepsFile : {F : Type 0} → (F → Option (List ℕ)) → Option F → Option F → Type 0
-KeepsFile of_file (Some file) (Some file') = Keeps (of_file file) (of_file file')
-KeepsFile of_file None None = Unit {0}
-KeepsFile of_file (Some file) None = ⊥
-KeepsFile of_file None (Some file) = ⊥

@@ -9,6 +9,8 @@ use crate::fifo::Fifo;
 use crate::handle::HostHandle;
 use crate::patient::{HostReadable, HostReader, Nap, Patient};
 use crate::readable::Readable;
+use crate::served::Served;
+use crate::standard_output::StandardOutput;
 use crate::streams::Stream;
 use crate::writable::{Writable, writable_fifo};
 use collector::NotOpened;
@@ -40,7 +42,7 @@ impl<R: HostHandle, I: Inputs<HostReader<R>>> HostFiles<R, I> {
             return Err(NotOpened::NoMemory);
         };
         Ok(Found {
-            file: self.patient(Readable::standard(reader)),
+            file: Served::reads(self.patient(Readable::standard(reader))),
             facts,
             is_standard: true,
         })
@@ -68,7 +70,7 @@ impl<R: HostHandle, I: Inputs<HostReader<R>>> HostFiles<R, I> {
             return Err(NotOpened::Refused);
         }
         Ok(Found {
-            file: self.patient(file),
+            file: Served::reads(self.patient(file)),
             facts: Some(facts),
             is_standard: false,
         })
@@ -124,7 +126,8 @@ impl<R: HostHandle, I: Inputs<HostReader<R>>> HostFiles<R, I> {
             return Err(NotOpened::Refused);
         }
         Ok(FoundOutput {
-            to: None,
+            to: self.patient(Writable::standard(StandardOutput(self.rt))),
+            is_standard: true,
             opener: None,
             held: None,
             facts,
@@ -149,10 +152,11 @@ impl<R: HostHandle, I: Inputs<HostReader<R>>> HostFiles<R, I> {
         facts: Facts,
     ) -> Result<FoundOutput<R>, NotOpened> {
         let fifo = Fifo::new(self.alloc, path, facts)?;
-        let (to, opener) = writable_fifo(self.rt, self.alloc, fifo, append)?;
+        let (to, opener) = writable_fifo(self.alloc, fifo, append)?;
         Ok(FoundOutput {
-            to: Some(self.patient(to)),
-            opener: Some(self.patient(Readable::opener(opener))),
+            to: self.patient(to),
+            is_standard: false,
+            opener: Some(Served::reads(self.patient(Readable::opener(opener)))),
             held: None,
             facts: Some(facts),
         })
@@ -172,7 +176,8 @@ impl<R: HostHandle, I: Inputs<HostReader<R>>> HostFiles<R, I> {
             file.set_len(0).ok()?;
         }
         Some(FoundOutput {
-            to: Some(self.patient(Writable::file(file))),
+            to: self.patient(Writable::file(file)),
+            is_standard: false,
             opener: None,
             held: None,
             facts: Some(facts),

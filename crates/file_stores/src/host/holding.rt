@@ -101,7 +101,8 @@ impl<R: HostHandle, I: Inputs<HostReader<R>>> HostFiles<R, I> {
     // This file as an output that is held back.
     fn held(&self, file: File, facts: Option<Facts>, held: HeldOutput) -> FoundOutput<R> {
         FoundOutput {
-            to: Some(self.patient(Writable::file(file))),
+            to: self.patient(Writable::file(file)),
+            is_standard: false,
             opener: None,
             held: Some(held),
             facts,

@@ -15,7 +15,7 @@ use waiting_inputs::Inputs;
 
 // An input that can be opened, and what the system says of it. Nothing of it has been read.
 #[derive(Drop)]
-pub(crate) struct Found<R> {
+pub(crate) struct Found<R: HostHandle> {
     pub(crate) file: HostReader<R>,
     pub(crate) facts: Option<Facts>,
     pub(crate) is_standard: bool,
@@ -23,14 +23,14 @@ pub(crate) struct Found<R> {
 
 // An open input of the host, and what the system says of it.
 #[derive(Drop)]
-pub(crate) struct HostInput<R> {
+pub(crate) struct HostInput<R: HostHandle> {
     pub(crate) logged: LoggedInput<HostReader<R>>,
     pub(crate) facts: Option<Facts>,
     // Whether it is the standard input.
     is_standard: bool,
 }
 
-impl<R> Model for HostInput<R> {
+impl<R: HostHandle> Model for HostInput<R> {
     ghost use Rattle.file_stores.specs.inner.Host.{HostInputShown};
 
     ghost Value = { HostInputShown };
@@ -166,9 +166,20 @@ pub(crate) fn ask_each<R: HostHandle, I: Inputs<HostReader<R>>>(
     ensures { inputs.new.items ≡ inputs.old.items }
 {
     for file in files {
-        if let Some(input) = inputs.get_mut(*file) {
-            input.ask(waiting);
-        }
+        ask_at(inputs, waiting, *file);
+    }
+}
+
+// Asks a thread for the next bytes of this file, if it may wait.
+fn ask_at<R: HostHandle, I: Inputs<HostReader<R>>>(
+    inputs: &mut Vec<HostInput<R>>,
+    waiting: &mut Waiting<I>,
+    file: usize,
+)
+    ensures { inputs.new.items ≡ inputs.old.items }
+{
+    if file < inputs.len() {
+        inputs[file].ask(waiting);
     }
 }
 

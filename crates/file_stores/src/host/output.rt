@@ -1,23 +1,28 @@
 // The open outputs of the host.
-ghost use Rattle.std.specs.Prelude.{◌≡◌, []};
+ghost use Rattle.std.specs.Prelude.{◌≡◌, ◌≤◌, [], ◌++◌, length, take, IfOk, IfErr, IsOk, OnOk, OnErr};
+ghost use Rattle.collector.specs.Files.{batch_bytes, nothing_written, SettlesAll, SettlesSome};
 
+use super::writing::WrittenBy;
 use crate::error_number::ErrorNumber;
 use crate::facts::Facts;
 use crate::handle::HostHandle;
 use crate::held::HeldOutput;
-use crate::logged::{LoggedInput, LoggedOutput, Waiting};
+use crate::logged::{LoggedInput, Waiting};
 use crate::new_file::NewFile;
 use crate::patient::{HostReader, HostWriter};
+use collector::Batch;
 use run_types::Placing;
-use std::alloc::AllocError;
+use std::alloc::{AllocError, Global};
 use std::marker::Model;
+use std::mem;
 use waiting_inputs::Inputs;
+use waiting_outputs::Output;
 
 // An output that can be written to, and what the system says of it. Nothing has been written to it.
 #[derive(Drop)]
-pub(crate) struct FoundOutput<R> {
-    // None is the standard output.
-    pub(crate) to: Option<HostWriter<R>>,
+pub(crate) struct FoundOutput<R: HostHandle> {
+    pub(crate) to: HostWriter<R>,
+    pub(crate) is_standard: bool,
     // The task that opens it, if it is not open.
     pub(crate) opener: Option<HostReader<R>>,
     pub(crate) facts: Option<Facts>,
@@ -27,21 +32,25 @@ pub(crate) struct FoundOutput<R> {
 
 // An open output of the host, and what the system says of it.
 #[derive(Drop)]
-pub(crate) struct HostOutput<R> {
-    pub(crate) logged: LoggedOutput<HostWriter<R>>,
+pub(crate) struct HostOutput<R: HostHandle> {
+    written: Output<HostWriter<R>>,
+    written_by: WrittenBy<R>,
+    pub(crate) is_standard: bool,
     // The task that opens it, as an input that nothing is read of. None once that is done.
-    pub(crate) opening: Option<LoggedInput<HostReader<R>>>,
+    opening: Option<LoggedInput<HostReader<R>>>,
     pub(crate) facts: Option<Facts>,
     // Its file, if that is held back.
-    pub(crate) held: Option<HeldOutput>,
+    held: Option<HeldOutput>,
+    // Whether it has come to its end.
+    is_ended: bool,
 }
 
-impl<R> Model for HostOutput<R> {
-    ghost use Rattle.std.specs.Prelude.{ℕ, List};
+impl<R: HostHandle> Model for HostOutput<R> {
+    ghost use Rattle.file_stores.specs.inner.Host.{HostOutputShown};
 
-    ghost Value = { List ℕ };
+    ghost Value = { HostOutputShown };
 
-    ghost view = { λ o. o.logged.taken };
+    ghost view = { λ o. record { log = record { bytes = o.written.taken; out = o.written.out } } };
 }
 
 // Opens an output. If it has to be opened yet, a thread begins to do so now. Nothing has been written to it.
@@ -50,22 +59,26 @@ pub(crate) fn begun<R: HostHandle, I: Inputs<HostReader<R>>>(
     waiting: &mut Waiting<I>,
     found: FoundOutput<R>,
 ) -> HostOutput<R>
-    ensures { result ≡ [] }
+    ensures { result ≡ record { log = nothing_written } }
 {
     let FoundOutput {
         to,
+        is_standard,
         opener,
         facts,
         held,
     } = found;
     HostOutput {
-        logged: LoggedOutput::new(to),
+        written: Output::new(to),
+        written_by: WrittenBy::Caller,
+        is_standard,
         opening: match opener {
             Some(opener) => Some(asked(rt, waiting, opener)),
             None => None,
         },
         facts,
         held,
+        is_ended: false,
     }
 }
 
@@ -82,17 +95,102 @@ fn asked<R: HostHandle, I: Inputs<HostReader<R>>>(
 }
 
 impl<R: HostHandle> HostOutput<R> {
-    // The number of the thread that opens it, if one does.
-    pub(crate) fn thread(&self) -> Option<usize> {
-        self.opening.as_ref()?.thread()
+    // Writes once, after it was opened. Returns how many bytes were taken, or why none was of a nonempty slice. It fails if bytes are out.
+    pub(crate) fn write<I: Inputs<HostReader<R>>>(
+        &mut self,
+        waiting: &mut Waiting<I>,
+        from: &[u8],
+    ) -> Result<usize, ErrorNumber>
+        ensures count { IfOk result
+            (λ count. (count ≤ length from.now) × (1 ≤ length from.now → 1 ≤ count)) }
+        ensures told { IfOk result
+            (λ count. self.new.log.bytes ≡ self.old.log.bytes ++ take count from.now) }
+        ensures home { IsOk result → self.old.log.out ≡ [] }
+        ensures out { self.new.log.out ≡ self.old.log.out }
+        ensures failed { OnErr result (self.new ≡ self.old) }
+    {
+        finish_opening(&mut self.opening, waiting);
+        match self.written.write(from) {
+            Ok(count) => {
+                note_held(&mut self.held, count);
+                Ok(count)
+            }
+            Err(error) => Err(error.raw_os_error()),
+        }
     }
 
-    // Whether a write to it would wait, since a thread has not opened it.
-    pub(crate) fn would_wait<I: Inputs<HostReader<R>>>(&self, waiting: &mut Waiting<I>) -> bool {
-        match &self.opening {
-            Some(opening) => opening.would_wait(waiting),
-            None => false,
+    // Hands bytes over to the thread that writes to it, if its writes may wait and it is not held back. They come back if it has no thread.
+    pub(crate) fn hand_over<I: Inputs<HostReader<R>>>(
+        &mut self,
+        rt: &R,
+        alloc: Global,
+        waiting: &mut Waiting<I>,
+        batch: Batch,
+    ) -> Result<(), Batch>
+        ensures free { OnOk result (self.old.log.out ≡ []) }
+        ensures handed { OnOk result (self.new
+            ≡ record { log = record { bytes = self.old.log.bytes; out = batch_bytes batch } }) }
+        ensures back { IfErr result (λ back. (back ≡ batch) × (self.new ≡ self.old)) }
+    {
+        if self.held.is_some() || !may_wait(self.facts) {
+            return Err(batch);
         }
+        // It is in this place only until the next line.
+        let written_by = mem::replace(&mut self.written_by, WrittenBy::CallerAlone);
+        self.written_by = written_by.with_thread(alloc, waiting);
+        let WrittenBy::Thread(thread) = &mut self.written_by else {
+            return Err(batch);
+        };
+        finish_opening(&mut self.opening, waiting);
+        if let Some(back) = self.written.hand_over(rt, alloc, &thread.giver, batch) {
+            return Err(back);
+        }
+        thread.answers.ask(waiting);
+        Ok(())
+    }
+
+    #[tactic(auto, using(crate::proofs::lemmas::HostSettles::settles_some))]
+    // Waits until all that was handed over is written, or a write of it failed. Returns it, as room for other bytes, or why it failed.
+    pub(crate) fn settle<I: Inputs<HostReader<R>>>(
+        &mut self,
+        rt: &R,
+        waiting: &mut Waiting<I>,
+    ) -> Result<Option<Batch>, ErrorNumber>
+        ensures all { OnOk result (SettlesAll self.old.log self.new.log) }
+        ensures some { OnErr result (SettlesSome self.old.log self.new.log) }
+        ensures idle { self.old.log.out ≡ [] → IsOk result × (self.new ≡ self.old) }
+    {
+        self.written_by.wait(self.written.is_out(), waiting);
+        match self.written.settle(rt) {
+            Ok(batch) => Ok(batch),
+            Err(failed) => Err(failed.number),
+        }
+    }
+
+    // The number of the thread that it waits for, if it does: the one that writes to it, or else the one that opens it.
+    pub(crate) fn thread(&self) -> Option<usize> {
+        match &self.written_by {
+            WrittenBy::Thread(thread) if self.written.is_out() => thread.answers.thread(),
+            _ => self.opening.as_ref()?.thread(),
+        }
+    }
+
+    // Whether a write to it would wait, since a thread has not written what was handed over, or has not opened it.
+    pub(crate) fn would_wait<I: Inputs<HostReader<R>>>(&self, waiting: &mut Waiting<I>) -> bool {
+        match (&self.written_by, &self.opening) {
+            (WrittenBy::Thread(thread), _) if self.written.is_out() => {
+                thread.answers.would_wait(waiting)
+            }
+            (_, Some(opening)) => opening.would_wait(waiting),
+            (_, None) => false,
+        }
+    }
+
+    // Notes that it has come to its end. Returns whether that was noted before.
+    pub(crate) fn note_end(&mut self) -> bool
+        ensures { self.new ≡ self.old }
+    {
+        mem::replace(&mut self.is_ended, true)
     }
 
     // Ends it: waits until the bytes of a file are stored, or closes a FIFO once it is open. Returns why that failed.
@@ -103,7 +201,7 @@ impl<R: HostHandle> HostOutput<R> {
         ensures { self.new ≡ self.old }
     {
         finish_opening(&mut self.opening, waiting);
-        self.logged.finish()
+        self.written.finish().map_err(|error| error.raw_os_error())
     }
 
     // Whether its file is held back, and is to outlast a power cut once it is in place.
@@ -198,14 +296,33 @@ impl<R: HostHandle> HostOutput<R> {
     }
 }
 
+// Whether a write to such an output may wait. If nothing is known of it, it may.
+fn may_wait(facts: Option<Facts>) -> bool {
+    match facts {
+        Some(facts) => facts.is_stream(),
+        None => true,
+    }
+}
+
 // Waits until the task that opens an output is done.
-pub(crate) fn finish_opening<R: HostHandle, I: Inputs<HostReader<R>>>(
+fn finish_opening<R: HostHandle, I: Inputs<HostReader<R>>>(
     opening: &mut Option<LoggedInput<HostReader<R>>>,
     waiting: &mut Waiting<I>,
 ) {
     if let Some(mut task) = opening.take() {
         // It gives no byte, and the output itself knows whether it was opened.
         let _ = task.read(waiting, &mut [0]);
+    }
+}
+
+// Notes that the output with this number has come to its end. Returns whether that is new.
+pub(crate) fn note_end_at<R: HostHandle>(outputs: &mut Vec<HostOutput<R>>, file: usize) -> bool
+    ensures { outputs.new.items ≡ outputs.old.items }
+{
+    if file < outputs.len() {
+        !outputs[file].note_end()
+    } else {
+        false
     }
 }
 
@@ -307,7 +424,7 @@ fn store_folders<R: HostHandle>(outputs: &mut Vec<HostOutput<R>>) -> Result<(), 
 }
 
 // Counts bytes that were written to an output, if it is held back.
-pub(crate) fn note_held(held: &mut Option<HeldOutput>, count: usize) {
+fn note_held(held: &mut Option<HeldOutput>, count: usize) {
     if let Some(held) = held {
         held.note_written(count);
     }
@@ -322,8 +439,8 @@ pub(crate) fn leave_all<R: HostHandle>(rt: &R, outputs: &mut Vec<HostOutput<R>>)
     }
 }
 
-// Adds the numbers of the threads that open these files.
-pub(crate) fn add_opening<R: HostHandle>(
+// Adds the numbers of the threads that these files wait for.
+pub(crate) fn add_waiting<R: HostHandle>(
     outputs: &[HostOutput<R>],
     files: &[usize],
     threads: &mut Vec<usize>,

@@ -29,14 +29,12 @@ impl<R: HostHandle, I: Inputs<HostReader<R>>> HostFiles<R, I> {
         };
         let FoundOutput {
             to,
+            is_standard: _,
             opener: _opener,
             facts: _facts,
             held,
         } = found;
-        match to {
-            Some(file) => Ok(ReportFile::open(file, held)),
-            None => Err(NotOpened::Refused),
-        }
+        Ok(ReportFile::open(to, held))
     }
 
     // Whether a file is a stream, or the standard error.

@@ -6,7 +6,6 @@ ghost use Rattle.waiting_inputs.specs.Inputs.{Lefts};
 ghost use Rattle.file_stores.specs.inner.Logged.{MovesFile, ReadsOnce, left_of, thread_of, delay_of};
 ghost use Rattle.file_stores.specs.inner.Logged.{is_put_off, accepted, once_read, read_next_here};
 
-use super::passed::Passed;
 use crate::error_number::ErrorNumber;
 use crate::placed::LeavesPart;
 use collector::{LeftOut, NeededEnd};
@@ -15,6 +14,7 @@ use std::io::Read;
 use std::marker::Model;
 use std::mem;
 use waiting_inputs::{Inputs, OpensLate};
+use waiting_outputs::Passed;
 
 // The inputs that threads read. They are reached by the methods of logged inputs alone.
 #[derive(Drop)]
