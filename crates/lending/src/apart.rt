@@ -86,6 +86,7 @@ impl<M: Machine> LentNetwork<M> {
             &mut self.parts.nodes,
             &self.parts.pipes,
             &mut self.moved,
+            &mut self.passed,
             files,
             rounds,
             clock,
@@ -167,11 +168,12 @@ pub(crate) fn is_over(state: NodeState) -> bool {
 }
 
 // Rounds of the nodes that are here, except those whose reads or writes would wait, until nothing goes on or one has failed. Their
-// steps that move something are added to these.
+// steps that move something are added to these. It counts the sinks that the last round passes over.
 fn step_rounds<M: Machine, F: Readiness, C: StepClock>(
     nodes: &mut [Actor<M>],
     pipes: &[Link],
     moved: &mut usize,
+    passed: &mut usize,
     files: &mut F,
     rounds: usize,
     clock: &C,
@@ -185,7 +187,8 @@ fn step_rounds<M: Machine, F: Readiness, C: StepClock>(
 {
     let mut halted = count_halted(nodes);
     for round in 0..rounds {
-        let Some(done) = step_round(nodes, pipes, files, clock) else {
+        *passed = 0;
+        let Some(done) = step_round(nodes, pipes, passed, files, clock) else {
             return Flow::Failed;
         };
         *moved = moved.wrapping_add(done.moved);
@@ -197,10 +200,12 @@ fn step_rounds<M: Machine, F: Readiness, C: StepClock>(
     Flow::Moving
 }
 
-// Steps of each node that is here, except those whose reads or writes would wait, in the order of their numbers. None if one has failed.
+// Steps of each node that is here, except those whose reads or writes would wait, in the order of their numbers. It counts the sinks that it
+// passes over. None if a node has failed.
 fn step_round<M: Machine, F: Readiness, C: StepClock>(
     nodes: &mut [Actor<M>],
     pipes: &[Link],
+    passed: &mut usize,
     files: &mut F,
     clock: &C,
 ) -> Option<Round>
@@ -215,7 +220,7 @@ fn step_round<M: Machine, F: Readiness, C: StepClock>(
         halted: 0,
     };
     for node in 0..nodes.len() {
-        round = step_on(nodes, pipes, node, files, clock, round)?;
+        round = step_on(nodes, pipes, node, passed, files, clock, round)?;
     }
     Some(round)
 }
@@ -226,6 +231,7 @@ fn step_on<M: Machine, F: Readiness, C: StepClock>(
     nodes: &mut [Actor<M>],
     pipes: &[Link],
     node: usize,
+    passed: &mut usize,
     files: &mut F,
     clock: &C,
     before: Round,
@@ -239,7 +245,7 @@ fn step_on<M: Machine, F: Readiness, C: StepClock>(
 {
     let mut round = before;
     for again in 0..steps_in_a_row(&nodes[node]) {
-        let step = step_ready(nodes, pipes, node, files, clock);
+        let step = step_ready(nodes, pipes, node, passed, files, clock);
         if is_failed(step) {
             return None;
         }
@@ -281,11 +287,12 @@ impl Round {
     }
 }
 
-// A step of the node, if it is here and its read or write would not wait. Otherwise it waits, for no pipe of its own.
+// A step of the node, if it is here and its read or write would not wait. Otherwise it waits, for no pipe of its own, and counts if it is a sink.
 fn step_ready<M: Machine, F: Readiness, C: StepClock>(
     nodes: &mut [Actor<M>],
     pipes: &[Link],
     node: usize,
+    passed: &mut usize,
     files: &mut F,
     clock: &C,
 ) -> Step
@@ -300,8 +307,14 @@ fn step_ready<M: Machine, F: Readiness, C: StepClock>(
     if is_ready(nodes, pipes, node, files) {
         step_here(nodes, node, files, clock)
     } else {
+        *passed = passed.saturating_add(usize::from(is_sink(&nodes[node])));
         Step::Waits(node)
     }
+}
+
+// Whether it is a sink.
+fn is_sink<M: Machine>(actor: &Actor<M>) -> bool {
+    matches!(actor, Actor::Sink(_))
 }
 
 // Whether it is here, and its read or write would not wait.

@@ -25,6 +25,8 @@ pub struct LentNetwork<M: Machine> {
     pub(crate) parts: NetworkParts<M>,
     // How many steps of its nodes have moved something.
     pub(crate) moved: usize,
+    // How many sinks the last round passed over.
+    pub(crate) passed: usize,
 }
 
 impl<M: Machine> Model for LentNetwork<M> {
@@ -44,6 +46,7 @@ impl<M: Machine> LentNetwork<M> {
         LentNetwork {
             parts: network.into_parts(),
             moved: 0,
+            passed: 0,
         }
     }
 

@@ -18,17 +18,10 @@ impl<M: Machine> LentNetwork<M> {
         }
     }
 
-    /// How many of the sinks that are here would wait for their next write.
-    pub fn waiting_sinks<F: Readiness>(&self, files: &mut F) -> usize
-        ensures { F.shows files.new ≡ F.shows files.old }
-    {
-        count_waiting_sinks(&self.parts.nodes, files)
-    }
-
     /// Whether a round may step every node that is here, though its read or write waits. If each read and each of these writes would wait,
     /// this waits until one would not. If only some would wait, it returns false: the others are to go on first. That is also so
-    /// if fewer sinks wait than this many, which waited before the last rounds: those rounds have passed over one that can write now.
-    pub fn wait_for_files<F: Readiness>(&self, alloc: Global, before: usize, files: &mut F) -> bool
+    /// if fewer sinks wait now than the last round passed over: one of those can write now.
+    pub fn wait_for_files<F: Readiness>(&self, alloc: Global, files: &mut F) -> bool
         ensures { F.shows files.new ≡ F.shows files.old }
     {
         let Ok(reads) = next_reads(alloc, &self.parts.nodes, &self.parts.pipes) else {
@@ -37,7 +30,7 @@ impl<M: Machine> LentNetwork<M> {
         let Ok(writes) = waiting_writes(alloc, &self.parts.nodes, files) else {
             return true;
         };
-        writes.len() >= before && wait_for_any(reads.as_slice(), writes.as_slice(), files)
+        writes.len() >= self.passed && wait_for_any(reads.as_slice(), writes.as_slice(), files)
     }
 }
 
@@ -152,19 +145,6 @@ fn waiting_writes<M: Machine, F: Readiness>(
         }
     }
     Ok(writes)
-}
-
-// How many of these nodes are sinks whose next write would wait.
-fn count_waiting_sinks<M: Machine, F: Readiness>(nodes: &[Actor<M>], files: &mut F) -> usize
-    ensures { F.shows files.new ≡ F.shows files.old }
-{
-    let mut waiting = 0usize;
-    for node in 0..nodes.len() {
-        if let Some(file) = next_write(nodes, node) {
-            waiting = waiting.saturating_add(usize::from(files.output_would_wait(file)));
-        }
-    }
-    waiting
 }
 
 // How many writes to these files would wait.

@@ -358,9 +358,9 @@ fn pass_on<M: Machine, G: Gate, F: Readiness>(
     let mut here = LentNetwork::new(phase.network);
     let before = look_first(&here, files, rounds);
     let flow = run_some(&mut here, gate, files, rounds);
-    let drained = before.stops && flow == Flow::Quiet;
+    let drained = before && flow == Flow::Quiet;
     let tally = phase.tally.ended(drained, here.moved(), gate.nanos());
-    let may_read = prepare_reads(&here, alloc, before.waiting, files, flow, ahead);
+    let may_read = prepare_reads(&here, alloc, files, flow, ahead);
     Phase {
         network: here.settle(Vec::new(alloc)),
         sound: flow != Flow::Failed,
@@ -369,36 +369,22 @@ fn pass_on<M: Machine, G: Gate, F: Readiness>(
     }
 }
 
-// What a network shows before rounds of its nodes.
-#[derive(Clone, Copy)]
-struct Before {
-    // Whether the rounds end only once nothing moves: if their number is given, or the next read of a source would wait.
-    stops: bool,
-    // How many sinks would wait for their next write.
-    waiting: usize,
-}
-
-// Looks at the files of a network before such rounds.
+// Whether rounds of a network end only once nothing moves: if their number is given, or the next read of a source, or write of a sink, would wait.
 fn look_first<M: Machine, F: Readiness>(
     here: &LentNetwork<M>,
     files: &mut F,
     rounds: Option<usize>,
-) -> Before
+) -> bool
     ensures { F.shows files.new ≡ F.shows files.old }
 {
-    let stops = rounds.is_some() || here.has_waiting(files);
-    Before {
-        stops,
-        waiting: here.waiting_sinks(files),
-    }
+    rounds.is_some() || here.has_waiting(files)
 }
 
 // If nothing moves after such rounds, asks for the next reads, if that is done ahead, and waits until a source can read. Whether a round may step
-// every source. Before the rounds this many sinks would have waited.
+// every source.
 fn prepare_reads<M: Machine, F: Readiness>(
     here: &LentNetwork<M>,
     alloc: Global,
-    waiting: usize,
     files: &mut F,
     flow: Flow,
     ahead: bool,
@@ -411,7 +397,7 @@ fn prepare_reads<M: Machine, F: Readiness>(
     match flow {
         Flow::Moving => false,
         Flow::Failed => true,
-        Flow::Quiet => here.wait_for_files(alloc, waiting, files),
+        Flow::Quiet => here.wait_for_files(alloc, files),
     }
 }
 
