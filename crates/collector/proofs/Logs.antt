@@ -1,9 +1,10 @@
 -- Files with one log that changed, and several writes in a row.
-use Rattle.std.proofs.Common.{◌≡◌, ℕ, ◌+◌, ◌-◌, ◌≤◌, List, [], ◌++◌, length, take, drop, Option}
+use Rattle.std.proofs.Common.{◌≡◌, ℕ, ◌+◌, ◌-◌, ◌≤◌, List, [], ◌∷◌, ◌++◌, length, take, drop, Option}
 use Rattle.std.proofs.Common.{Some, IsSome, unwrap_or, refl, sym, ap, ◌∙◌, subst, append_assoc}
 use Rattle.std.proofs.Common.{append-nil, length-drop, arith}
 use Rattle.std.proofs.lemmas.List.{take-append-drop, take_all}
 use Rattle.std.proofs.Math.Seq.{take-add}
+use Rattle.std.specs.List.{concat}
 use mathlib.Core.List.{IsPrefix}
 use Rattle.run_types.specs.Destinations.{Destination}
 use Rattle.collector.specs.Files.{FilesShown, SameFiles, Grows, SamePlaces, WriteLog, WritesOnly}
@@ -134,3 +135,55 @@ module _ (file : ℕ) (bytes : List ℕ) (first : FilesShown) where
     (drop at bytes, take-append-drop at bytes),
     ap (λ (l : Option WriteLog). (unwrap_or l nothing_written).bytes) (same.outputs file) ∙ w.told,
   )
+
+-- the first pieces were written, and these are left
+pub record PiecesWritten (file : ℕ) (pieces left : List (List ℕ)) (first now : FilesShown) :
+    Type 0 where
+  pub done : List ℕ
+  pub split : done ++ concat left ≡ concat pieces
+  pub told : writes_of now file ≡ writes_of first file ++ done
+  pub out : out_of now file ≡ out_of first file
+  pub only : WritesOnly file first now
+  pub failures : now.failures ≡ first.failures
+
+module _ (file : ℕ) (pieces : List (List ℕ)) (first : FilesShown) where
+  pub no_piece_written : IsSome (first.outputs file) → PiecesWritten file pieces pieces first first
+  no_piece_written still = record {
+    done = [];
+    split = refl;
+    told = sym (append-nil (writes_of first file));
+    out = refl;
+    only = writes_none file first still;
+    failures = refl;
+  }
+
+  module _ (piece : List ℕ) (left : List (List ℕ)) (mid now : FilesShown)
+      (w : PiecesWritten file pieces (piece ∷ left) first mid) where
+    -- one piece more was written
+    pub piece_written : writes_of now file ≡ writes_of mid file ++ piece
+        → out_of now file ≡ out_of mid file → WritesOnly file mid now
+        → now.failures ≡ mid.failures → PiecesWritten file pieces left first now
+    piece_written told out only failures = record {
+      done = w.done ++ piece;
+      split = append_assoc w.done piece (concat left) ∙ w.split;
+      told = told ∙ (ap (λ l. l ++ piece) w.told ∙ append_assoc (writes_of first file) w.done piece);
+      out = out ∙ w.out;
+      only = writes_on file first mid now w.only only;
+      failures = failures ∙ w.failures;
+    }
+
+    -- a write failed: what was written is the first bytes
+    pub front_written : (front : List ℕ) → IsPrefix front piece
+        → writes_of now file ≡ writes_of mid file ++ front
+        → (f : List ℕ) × IsPrefix f (concat pieces)
+        × (writes_of now file ≡ writes_of first file ++ f)
+    front_written front (rest, is) told = (
+      w.done ++ front,
+      (
+        rest ++ concat left,
+        append_assoc w.done front (rest ++ concat left)
+            ∙ (ap (λ l. w.done ++ l) (sym (append_assoc front rest (concat left)) ∙ ap (λ l. l ++ concat left) is)
+            ∙ w.split),
+      ),
+      told ∙ (ap (λ l. l ++ front) w.told ∙ append_assoc (writes_of first file) w.done front),
+    )

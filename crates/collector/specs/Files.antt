@@ -7,6 +7,7 @@
 use Rattle.std.specs.Prelude.{◌≡◌, ◌≢◌, ℕ, ◌+◌, ◌-◌, ◌^◌, ◌<◌, ◌≤◌, Bool, true, false, ◌⊎◌, List}
 use Rattle.std.specs.Prelude.{[], ◌∷◌, ◌++◌, length, Option, Some, None, IsSome, unwrap_or, min}
 use Rattle.std.specs.Prelude.{if◌then◌else◌}
+use Rattle.std.specs.List.{concat}
 use mathlib.Core.List.{IsPrefix}
 use Rattle.run_types.specs.declared.names.InName.{InName}
 use Rattle.run_types.specs.declared.names.InName.TheVariants as in_names
@@ -15,7 +16,7 @@ use Rattle.run_types.specs.Destinations.{Destination, FileOf, destination_of, is
 use Rattle.collector.specs.declared.needed.LeftOut.{LeftOut}
 use Rattle.collector.specs.declared.needed.LeftOut.TheVariants.{Nothing}
 use Rattle.collector.specs.declared.batch.Batch.{Batch}
-use Rattle.collector.specs.declared.batch.Batch.TheVariants.{Joined, Single}
+use Rattle.collector.specs.declared.batch.Batch.TheVariants.{Joined, Single, Several}
 use Rattle.collector.specs.declared.names.Opening.{Opening}
 use Rattle.collector.specs.declared.names.Opening.TheVariants.{Input, Output}
 
@@ -42,6 +43,7 @@ nothing_written = record { bytes = []; out = [] }
 abbrev pub batch_bytes : Batch → List ℕ
 batch_bytes (Joined bytes) = bytes.items
 batch_bytes (Single piece) = piece
+batch_bytes (Several pieces) = concat pieces
 
 -- What files show of themselves: the openings that were answered, oldest first; by the number of an
 -- open input what its reads gave; by that of an open output what its writes took and what is out,

@@ -1,9 +1,11 @@
-ghost use Rattle.std.specs.Prelude.{◌≡◌, ◌+◌, ◌≤◌, ◌++◌, false, length, IsTrue};
+ghost use Rattle.std.specs.Prelude.{◌≡◌, ◌+◌, ◌≤◌, ◌<◌, ◌++◌, false, length, IsTrue};
+ghost use Rattle.std.specs.List.{concat};
 ghost use Rattle.std.specs.Vec.{vec_capacity};
 ghost use Rattle.bounded_pipe.specs.Ends.{Reading};
 ghost use Rattle.bounded_pipe.specs.Pipes.{BeginsWithPiece};
 ghost use Rattle.collector.specs.inner.Joins.{Took};
 
+use crate::batch::FewPieces;
 use bounded_pipe::PipeIn;
 use machine::Item;
 
@@ -47,4 +49,36 @@ fn join_next(end: &mut PipeIn, size: usize, bytes: &mut Vec<u8>)
     let Ok(()) = bytes.extend_from_slice(piece.bytes()) else {
         unreachable!()
     };
+}
+
+// Takes the next items of the pipe, as long as they are pieces that are not short, are there and have room.
+pub(crate) fn take_long(end: &mut PipeIn, room: usize, pieces: &mut FewPieces)
+    ensures took { (start : Reading) → Took start end.old (concat pieces.old) false
+        → Took start end.new (concat pieces.new) false }
+{
+    for _ in 0..MOST {
+        if pieces.is_full() {
+            return;
+        }
+        let Some(size) = end.next_size() else {
+            return;
+        };
+        if is_short(size, 0, room) {
+            return;
+        }
+        take_piece(end, size, pieces);
+    }
+}
+
+// Takes the next item of the pipe, which is a piece of this size, for which there is room.
+fn take_piece(end: &mut PipeIn, size: usize, pieces: &mut FewPieces)
+    requires next { BeginsWithPiece size end.old.known }
+    requires room { length pieces.old < 8 }
+    ensures took { (start : Reading) → Took start end.old (concat pieces.old) false
+        → Took start end.new (concat pieces.new) false }
+{
+    let Some(Item::Bytes(piece)) = end.take() else {
+        unreachable!()
+    };
+    pieces.push(piece);
 }

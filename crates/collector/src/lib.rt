@@ -1,7 +1,7 @@
 // The files of a run, and the nodes that touch them: sources and sinks.
 #![tactic(auto)]
 
-pub use batch::Batch;
+pub use batch::{Batch, FewPieces};
 pub use fault::RunFault;
 pub use names::Opening;
 pub use needed::{LeftOut, NeededEnd};

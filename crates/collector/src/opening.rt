@@ -1,4 +1,4 @@
-ghost use Rattle.std.specs.Prelude.{◌≡◌, ◌≤◌, ℕ, Bool, [], ◌++◌, length, take, None, Some, IsSome, IfOk, IfErr, IsOk, IsErr, IsErrOf, OnOk, OnErr, IsTrue, false};
+ghost use Rattle.std.specs.Prelude.{◌≡◌, ◌≤◌, ℕ, Bool, [], ◌++◌, length, take, None, Some, IsSome, IfSome, IfNone, IfOk, IfErr, IsOk, IsErr, IsErrOf, OnOk, OnErr, IsTrue, false};
 ghost use Rattle.collector.specs.InputEnds.{LeavesOut, LeavesRest};
 ghost use Rattle.collector.specs.Places.{BeginsOutputs, PutsInPlace, LeavesOutputs};
 ghost use Rattle.collector.specs.Files.{batch_bytes, FilesShown, HandsOver, log_of, nothing_read, out_of, reads_of, writes_of, SameFiles, SettlesAll, SettlesSome, OpensInput, OpensOutput, OpensDestination, OpensHeld, Refuses, OpensNothing, ReadsOnly, WritesOnly, Reads, one_more};
@@ -129,6 +129,22 @@ pub trait Files: Drop {
             (SameFiles (shows self.old) (shows self.new)
             × ((shows self.new).failures ≡ one_more (shows self.old).failures)) }
         ensures failures { OnOk result ((shows self.new).failures ≡ (shows self.old).failures) };
+
+    /// Takes the bytes of a read that was made ahead, without copying them, if there are some, and at most this many. Otherwise nothing
+    /// happens.
+    fn take_read(&mut self, _file: usize, _most: usize) -> Option<Vec<u8>>
+        requires opened { IsSome ((shows self.old).inputs _file) }
+        ensures only { ReadsOnly _file (shows self.old) (shows self.new) }
+        ensures long { IfSome result
+            (λ bytes. (1 ≤ length bytes.items) × (length bytes.items ≤ _most)) }
+        ensures told { IfSome result
+            (λ bytes. Reads (length bytes.items) bytes.items (reads_of (shows self.old) _file)
+            (reads_of (shows self.new) _file)) }
+        ensures none { IfNone result (shows self.new ≡ shows self.old) }
+        ensures failures { (shows self.new).failures ≡ (shows self.old).failures }
+    {
+        None
+    }
 
     /// Writes from the slice, and returns how many bytes of it, from the first, were taken: at
     /// least 1 of a nonempty one. It fails if bytes are out that were handed over.

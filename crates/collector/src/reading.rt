@@ -52,8 +52,35 @@ impl Reading {
         }
     }
 
+    // Makes a piece of what was read ahead, or of what one read gives now: none at the end.
+    pub(crate) fn next_piece<F: Files>(
+        &mut self,
+        file: usize,
+        files: &mut F,
+    ) -> Result<Option<Piece>, NodeFault>
+        requires opened { IsSome ((F.shows files.old).inputs file) }
+        ensures told { ReadsOnce self.old result (reads_of (F.shows files.old) file)
+            (reads_of (F.shows files.new) file) }
+        ensures long { IfOk result (IsHeldLong self.old) }
+        ensures fault { IfErr result IsSourceFault }
+        ensures only { ReadsOnly file (F.shows files.old) (F.shows files.new) }
+        ensures failures { MatchResult result
+            (λ held. (F.shows files.new).failures ≡ (F.shows files.old).failures)
+            (λ fault. (F.shows files.new).failures
+            ≡ failures_with fault (F.shows files.old).failures) }
+        ensures same { self.new ≡ self.old }
+    {
+        match files.take_read(file, self.block) {
+            Some(bytes) => match Piece::from_vec(bytes) {
+                Ok(piece) => Ok(Some(piece)),
+                Err(NoMemory) => Err(NodeFault::NoMemory),
+            },
+            None => self.read_piece(file, files),
+        }
+    }
+
     // Reads once, and makes a piece of what was read: none at the end.
-    pub(crate) fn read_piece<F: Files>(
+    fn read_piece<F: Files>(
         &mut self,
         file: usize,
         files: &mut F,

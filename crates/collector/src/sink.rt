@@ -7,11 +7,11 @@ ghost use Rattle.collector.specs.Nodes.{SinkShown, SinkFits, IsUnended, IsIdle, 
 ghost use Rattle.collector.specs.inner.Parts.{state_settled, state_finished, IsFinishAnswer, SinkGoesOn};
 ghost use Rattle.collector.specs.inner.Joins.{Took, PassesOn, TakesNext, state_after, state_next};
 
-use crate::batch::Batch;
+use crate::batch::{Batch, FewPieces};
 use crate::fault::RunFault;
-use crate::joining::{is_short, join_short};
+use crate::joining::{is_short, join_short, take_long};
 use crate::opening::{Files, IoFailed};
-use crate::writing::write_all;
+use crate::writing::write_batch;
 use bounded_pipe::PipeIn;
 use machine::{Item, Piece};
 use run_types::{NodeFault, NodeState, OutName, Step};
@@ -31,6 +31,9 @@ pub struct Sink {
     // The bytes of short pieces, which are written at once, and for how many there is room. Contracts see neither.
     joined: Vec<u8>,
     room: usize,
+    // Whether the last bytes were handed over, and room for several pieces. Contracts see neither.
+    is_handed: bool,
+    several: Option<FewPieces>,
 }
 
 impl Model for Sink {
@@ -77,6 +80,8 @@ impl Sink {
             fault: RunFault::WriteFault(name),
             joined: Vec::new(alloc),
             room,
+            is_handed: false,
+            several: None,
         }
     }
 
@@ -196,6 +201,7 @@ impl Sink {
     {
         match files.settle(self.file) {
             Ok(batch) => {
+                self.is_handed = batch.is_some();
                 self.reuse(batch);
                 true
             }
@@ -229,15 +235,55 @@ impl Sink {
         }
     }
 
-    // Joins short pieces that come next to this one, which was taken, if it is short.
+    // Gathers pieces that come next to this one, which was taken: short ones if it is short, and long ones if the last bytes were handed over.
     fn gather(&mut self, first: Piece) -> Batch
         ensures took { (start : Reading) → Took start self.old.end first false
             → Took start self.new.end (batch_bytes result) false }
         ensures same { self.new ≡ record self.old { end = self.new.end } }
     {
-        if !is_short(first.len(), 0, self.room) {
-            return Batch::Single(first);
+        if is_short(first.len(), 0, self.room) {
+            self.gather_short(first)
+        } else if self.is_handed {
+            self.gather_long(first)
+        } else {
+            Batch::Single(first)
         }
+    }
+
+    // Gathers long pieces that come next to this one, if there is memory for that.
+    fn gather_long(&mut self, first: Piece) -> Batch
+        ensures took { (start : Reading) → Took start self.old.end first false
+            → Took start self.new.end (batch_bytes result) false }
+        ensures same { self.new ≡ record self.old { end = self.new.end } }
+    {
+        let Some(mut pieces) = self.room_for_several() else {
+            return Batch::Single(first);
+        };
+        pieces.push(first);
+        take_long(&mut self.end, self.room, &mut pieces);
+        Batch::Several(pieces)
+    }
+
+    // Room for several pieces, with none in it. None if memory is refused.
+    fn room_for_several(&mut self) -> Option<FewPieces>
+        ensures empty { IfSome result (λ pieces. pieces ≡ []) }
+        ensures same { self.new ≡ self.old }
+    {
+        match self.several.take() {
+            Some(mut pieces) => {
+                pieces.clear();
+                Some(pieces)
+            }
+            None => FewPieces::new(*self.joined.allocator()).ok(),
+        }
+    }
+
+    // Joins short pieces that come next to this one, which is short.
+    fn gather_short(&mut self, first: Piece) -> Batch
+        ensures took { (start : Reading) → Took start self.old.end first false
+            → Took start self.new.end (batch_bytes result) false }
+        ensures same { self.new ≡ record self.old { end = self.new.end } }
+    {
         let unused = Vec::new(*self.joined.allocator());
         let mut joined = mem::replace(&mut self.joined, unused);
         joined.clear();
@@ -280,7 +326,7 @@ impl Sink {
         ensures failures { (F.shows files.new).failures
             ≡ failures_after NodeState.Running self.new.state (F.shows files.old).failures }
     {
-        let written = write_all(self.file, batch.bytes(), files);
+        let written = write_batch(self.file, &batch, files);
         self.reuse(Some(batch));
         match written {
             Ok(()) => Step::Moved,
@@ -291,12 +337,17 @@ impl Sink {
         }
     }
 
-    // Keeps the room of joined bytes, for others.
+    // Keeps the room of joined bytes or of several pieces, for others.
     fn reuse(&mut self, batch: Option<Batch>)
         ensures { self.new ≡ self.old }
     {
-        if let Some(Batch::Joined(bytes)) = batch {
-            self.joined = bytes;
+        match batch {
+            Some(Batch::Joined(bytes)) => self.joined = bytes,
+            Some(Batch::Several(mut pieces)) => {
+                pieces.clear();
+                self.several = Some(pieces);
+            }
+            Some(Batch::Single(_)) | None => {}
         }
     }
 

@@ -282,7 +282,7 @@ impl Source {
         if self.at_end {
             return Ok(Item::Close);
         }
-        match self.reading.read_piece(file, files)? {
+        match self.reading.next_piece(file, files)? {
             Some(piece) => Ok(Item::Bytes(piece)),
             None => {
                 self.at_end = true;

@@ -1,8 +1,10 @@
 // The line on which the answer to one piece comes back.
 ghost use Rattle.std.specs.Prelude.{◌≡◌, IfOk, IfSome};
+ghost use Rattle.collector.specs.Files.{batch_bytes};
 ghost use Rattle.waiting_outputs.specs.inner.Writes.{IsAnswer, Owed};
 
 use crate::done::Done;
+use collector::Batch;
 use crossbeam_channel::protocol::{Lesson, Outcome, Protocol, Split};
 use crossbeam_channel::{Pass, RuledReceiver, RuledSender, bounded_with};
 use std::alloc::{AllocError, Global};
@@ -150,16 +152,17 @@ impl<F: Write + Drop> Debtor<F> {
     }
 }
 
-// A line with no answer on it, for this file and this piece.
+// A line with no answer on it, for this file and this batch.
 pub(crate) fn ends<F: Write + Drop, B: Debt>(
     alloc: Global,
     file: &F,
-    piece: &[u8],
+    batch: &Batch,
 ) -> Result<(Owing<F>, Debtor<F>), AllocError>
     requires before { F.contents file.now ≡ B.debt.before }
-    requires bytes { piece.now ≡ B.debt.bytes }
-    ensures { IfOk result (λ r. (r.0 ≡ record { before = F.contents file.now; bytes = piece.now })
-        × (r.1 ≡ record { before = F.contents file.now; bytes = piece.now })) }
+    requires bytes { batch_bytes batch.now ≡ B.debt.bytes }
+    ensures { IfOk result
+        (λ r. (r.0 ≡ record { before = F.contents file.now; bytes = batch_bytes batch.now })
+        × (r.1 ≡ record { before = F.contents file.now; bytes = batch_bytes batch.now })) }
 {
     let (to, from, mut taker) = bounded_with::<Done<F>, Known, OneAnswer<F>, Global>(alloc, 1)?;
     let sender = to.another::<Halves<B>>(&mut taker);

@@ -6,7 +6,7 @@ ghost use Rattle.waiting_outputs.specs.inner.Writes.{TakesAnswer};
 
 use crate::done::{Done, Failed};
 use crate::line::Owing;
-use crate::passed::Passed;
+use crate::passed::{Passed, note_batch};
 use crate::thread::{Giver, hand};
 use collector::Batch;
 use std::alloc::Global;
@@ -138,7 +138,7 @@ impl<F: Write + Drop> Output<F> {
             (self.new ≡ record self.old { out = batch_bytes batch; is_out = true }) }
         ensures back { IfSome result (λ b. (b ≡ batch) × (self.new ≡ self.old)) }
     {
-        if batch.bytes().is_empty() {
+        if batch.is_empty() {
             return Some(batch);
         }
         match mem::replace(&mut self.state, State::Lost) {
@@ -188,7 +188,7 @@ impl<F: Write + Drop> Output<F> {
                     count,
                     error,
                 } = owing.wait(rt)?;
-                self.taken.note(&batch.bytes()[..count]);
+                note_batch(&mut self.taken, &batch, count);
                 self.state = State::Here(file);
                 Some(Answer {
                     count,

@@ -1,4 +1,5 @@
 ghost use Rattle.std.specs.Prelude.{◌≡◌, ◌≤◌, length, take, None, IfOk, IfErr};
+ghost use Rattle.std.specs.List.{concat};
 ghost use Rattle.std.specs.Io.KnownBytes.{Appends};
 ghost use Rattle.collector.specs.Files.{batch_bytes};
 
@@ -6,6 +7,7 @@ use crate::done::{Done, Failed};
 use crate::line::{Debtor, Owing, ends};
 use collector::Batch;
 use crossbeam_channel::{Receiver, Sender, bounded};
+use machine::{Piece, split_first};
 use std::alloc::{AllocError, Global};
 use std::io::Write;
 use std::marker::{Brand, Model};
@@ -76,7 +78,7 @@ pub(crate) fn hand<R: Wait, F: Write + Drop>(
         (λ owing. owing ≡ record { before = F.contents file; bytes = batch_bytes batch }) }
     ensures refused { IfErr result (λ back. (F.contents back.0 ≡ F.contents file) × (back.1 ≡ batch)) }
 {
-    let Ok((owing, debtor)) = ends::<F, Brand>(alloc, &file, batch.bytes()) else {
+    let Ok((owing, debtor)) = ends::<F, Brand>(alloc, &file, &batch) else {
         return Err((file, batch));
     };
     let task = Task {
@@ -111,7 +113,7 @@ impl<F: Write + Drop> Task<F> {
             batch,
             debtor,
         } = self;
-        let (count, error) = write_whole(&mut file, batch.bytes());
+        let (count, error) = write_batch(&mut file, &batch);
         let done = Done {
             file,
             batch,
@@ -120,6 +122,41 @@ impl<F: Write + Drop> Task<F> {
         };
         debtor.give(rt, done)
     }
+}
+
+// Writes all of a batch. Returns how many bytes were taken, and the failure if those are not all.
+fn write_batch<F: Write>(file: &mut F, batch: &Batch) -> (usize, Option<Failed>)
+    ensures count { result.0 ≤ length (batch_bytes batch.now) }
+    ensures written { Appends (F.contents file.old) (F.contents file.new)
+        (take result.0 (batch_bytes batch.now)) }
+    ensures whole { result.1 ≡ None → result.0 ≡ length (batch_bytes batch.now) }
+{
+    match batch {
+        Batch::Joined(bytes) => write_whole(file, bytes.as_slice()),
+        Batch::Single(piece) => write_whole(file, piece.bytes()),
+        Batch::Several(pieces) => write_pieces(file, pieces.as_slice()),
+    }
+}
+
+// Writes all of these pieces, one after the other. Returns how many bytes were taken, and the failure if those are not all.
+fn write_pieces<F: Write>(file: &mut F, pieces: &[Piece]) -> (usize, Option<Failed>)
+    requires few { length pieces.now ≤ 8 }
+    ensures count { result.0 ≤ length (concat pieces.now) }
+    ensures written { Appends (F.contents file.old) (F.contents file.new)
+        (take result.0 (concat pieces.now)) }
+    ensures whole { result.1 ≡ None → result.0 ≡ length (concat pieces.now) }
+{
+    let mut left = pieces;
+    let mut taken = 0;
+    while let Some((first, after)) = split_first(left) {
+        let (count, error) = write_whole(file, first.bytes());
+        taken += count;
+        if error.is_some() {
+            return (taken, error);
+        }
+        left = after;
+    }
+    (taken, None)
 }
 
 // Writes all of the bytes, each short write followed by the rest. Returns how many were taken, and the failure if those are not all.

@@ -1,7 +1,8 @@
 -- What a reader took, item by item.
-use Rattle.std.proofs.Common.{◌<◌, ℕ, Bool, false, ◌||◌, List, ◌++◌}
+use Rattle.std.proofs.Common.{◌≡◌, ◌<◌, ℕ, Bool, false, ◌||◌, List, [], ◌∷◌, ◌++◌}
 use Rattle.std.proofs.Common.{length, if◌then◌else◌, sym, ap, ◌∙◌, arith}
 use Rattle.std.proofs.Common.{append_assoc, append-nil}
+use Rattle.std.specs.List.{concat}
 use Rattle.std.proofs.lemmas.List.{length_push}
 use Rattle.machine.specs.Items.{bytes_of, has_close}
 use Rattle.machine.specs.declared.piece.Item.{Item}
@@ -55,6 +56,11 @@ took_more a b c bytes item before takes on =
       stays = one.stays ∙ before.stays;
       moved = (let first = before.moved in let second = one.moved in omega (arith, first, second));
     }
+
+-- a piece more
+pub concat_push : (xs : List (List ℕ)) (x : List ℕ) → concat (xs ++ x ∷ []) ≡ concat xs ++ x
+concat_push [] x = append-nil x
+concat_push (y ∷ ys) x = ap (λ l. y ++ l) (concat_push ys x) ∙ sym (append_assoc y (concat ys) x)
 
 -- after a look at an empty pipe it is the same
 pub took_same : (a b c : Reading) (bytes : List ℕ) (last : Bool) → Took a b bytes last
