@@ -23,6 +23,12 @@ pub record AddsInput (input : ℕ) (bytes : Option (List ℕ)) (old new : Lefts)
   pub number : input ≡ length old
   pub last : new ≡ old ++ bytes ∷ []
 
+-- These bytes were taken from the input with this number, and none from another.
+pub record TakesInput (input : ℕ) (bytes : List ℕ) (old new : Lefts) : Type 0 where
+  pub next : Consumes (left_at old input) (left_at new input) bytes
+  pub others : (other : ℕ) → other ≢ input → left_at new other ≡ left_at old other
+  pub count : length new ≡ length old
+
 -- The input with this number was read once, and no other.
 pub record ReadsInput (input : ℕ) (result : Option ℕ) (into : List ℕ) (old new : Lefts) :
     Type 0 where

@@ -1,6 +1,10 @@
-ghost use Rattle.std.specs.Prelude.{◌≡◌, ◌<◌, ◌≤◌, ◌↔◌, ◌++◌, true, [], length, take, drop, min};
+ghost use Rattle.std.specs.Prelude.{◌≡◌, ◌<◌, ◌≤◌, ◌↔◌, ◌++◌, true, [], length, take, drop, min, IfOk, IfErr};
 
+use std::alloc::{AllocError, Global};
 use std::marker::Model;
+
+// How many bytes a thread reads at most for one request: as many as a source asks for at most, so that they can go on as one piece.
+const READ_SIZE: usize = 57_344;
 
 // Room for the bytes of a read.
 #[derive(Drop)]
@@ -10,12 +14,17 @@ pub(crate) struct Buffer {
 }
 
 impl Buffer {
-    // These bytes, as room.
-    pub(crate) fn new(bytes: Vec<u8>) -> Buffer
-        requires { 0 < length bytes.items }
-        ensures { result.bytes ≡ bytes }
+    // Room for one read.
+    pub(crate) fn for_read(alloc: Global) -> Result<Buffer, AllocError> {
+        let bytes = vec![in alloc; 0; READ_SIZE]?;
+        Ok(Buffer { bytes })
+    }
+
+    // These bytes.
+    fn into_bytes(self) -> Vec<u8>
+        ensures { result ≡ self.bytes }
     {
-        Buffer { bytes }
+        self.bytes
     }
 }
 
@@ -62,6 +71,24 @@ impl Chunk {
     // How many bytes the read gave.
     pub(crate) fn count(&self) -> usize {
         self.upto
+    }
+
+    // All its bytes, without copying them, if all are left, they are at most this many, and they fill half of the buffer at least. Otherwise it stays
+    // as it is.
+    pub(crate) fn into_whole(self, most: usize) -> Result<Vec<u8>, Chunk>
+        ensures whole { IfOk result (λ bytes. bytes.items ≡ self) }
+        ensures long { IfOk result
+            (λ bytes. (1 ≤ length bytes.items) × (length bytes.items ≤ most)) }
+        ensures back { IfErr result (λ back. back ≡ self) }
+    {
+        let is_short = self.upto == 0 || self.upto < self.buffer.bytes.len() / 2;
+        if is_short || self.from != 0 || self.upto > most {
+            return Err(self);
+        }
+        let Chunk { buffer, upto, .. } = self;
+        let mut bytes = buffer.into_bytes();
+        bytes.truncate(upto);
+        Ok(bytes)
     }
 
     // Gives the next bytes, as many as fit. Returns how many.

@@ -1,4 +1,5 @@
-ghost use Rattle.std.specs.Prelude.{◌≡◌, ◌≤◌, length, IfSome};
+ghost use Rattle.std.specs.Prelude.{◌≡◌, ◌≤◌, length, IfSome, IfNone};
+ghost use Rattle.std.specs.Io.KnownBytes.{Consumes};
 ghost use Rattle.waiting_inputs.specs.Inputs.{ReadsNext};
 ghost use Rattle.waiting_inputs.specs.inner.Line.{given, IsEnd};
 
@@ -13,14 +14,21 @@ use std::sync::Wait;
 // A read of at least this many bytes is no sign that its input comes slowly.
 const AMPLE: usize = 4096;
 
+// A thread is asked for at most this many reads at once.
+pub(crate) const AHEAD: usize = 8;
+
 // An input, and the requests to its thread. Contracts see it as the bytes that its reads will return.
 #[derive(Drop)]
 pub(crate) struct Input {
-    requests: Sender<Buffer>,
+    requests: Sender<Option<Buffer>>,
     results: Taker,
     reading: Reading,
     // Whether the last read gave much.
     is_ample: bool,
+    // How many reads its thread may be asked for at once.
+    ahead: usize,
+    // How many reads its thread was asked for whose results were not taken.
+    asked: usize,
 }
 
 impl Model for Input {
@@ -36,15 +44,24 @@ impl Model for Input {
 
 impl Input {
     // An input whose thread takes these requests and sends these results. No read is asked for.
-    pub(crate) fn new(requests: Sender<Buffer>, results: Taker, buffer: Buffer) -> Input
+    pub(crate) fn new(requests: Sender<Option<Buffer>>, results: Taker, buffer: Buffer) -> Input
         ensures { result ≡ results }
     {
         Input {
             requests,
             results,
-            reading: Reading::Idle(buffer),
+            reading: Reading::Idle(Some(buffer)),
             is_ample: false,
+            ahead: 1,
+            asked: 0,
         }
+    }
+
+    // Lets its thread be asked for several reads at once.
+    pub(crate) fn read_ahead(&mut self)
+        ensures { self.new ≡ self.old }
+    {
+        self.ahead = AHEAD;
     }
 
     // Whether a read need not wait: there are bytes, or the end, or a failure.
@@ -61,17 +78,23 @@ impl Input {
         }
     }
 
-    // Asks its thread for a read, if there is nothing that the last read left.
+    // Asks its thread for a read, if there is nothing that the last read left. If it was asked for more than one, this takes the next result, if it
+    // is there.
     pub(crate) fn ask<R: Wait>(&mut self, rt: &R)
         ensures { self.new ≡ self.old }
     {
-        self.reading = match mem::replace(&mut self.reading, Reading::Lost) {
-            Reading::Idle(buffer) => match self.requests.send(rt, buffer) {
-                Ok(()) => Reading::Asked,
-                Err(_) => Reading::Lost,
-            },
-            other => other,
-        };
+        match mem::replace(&mut self.reading, Reading::Lost) {
+            Reading::Idle(buffer) => {
+                if self.asked == 0 {
+                    self.asked = request(rt, &self.requests, buffer, self.ahead);
+                }
+                if self.asked > 0 {
+                    self.reading = Reading::Asked;
+                    self.take_result(rt);
+                }
+            }
+            other => self.reading = other,
+        }
     }
 
     // Takes the result of a read that its thread was asked for, if it is there.
@@ -81,6 +104,7 @@ impl Input {
         if let Reading::Asked = self.reading
             && let Some(reading) = self.results.take(rt)
         {
+            self.asked = self.asked.saturating_sub(1);
             self.is_ample = is_ample(&reading);
             self.reading = reading;
         }
@@ -94,6 +118,33 @@ impl Input {
         let given = self.give(into);
         self.ask_ahead(rt);
         given
+    }
+
+    // Takes what the last read gave without copying it, if it may be taken whole. The thread makes the buffer of the next read. If the last one
+    // gave much, this asks for the next.
+    pub(crate) fn take<R: Wait>(&mut self, rt: &R, most: usize) -> Option<Vec<u8>>
+        ensures next { IfSome result (λ bytes. Consumes self.old self.new bytes.items) }
+        ensures long { IfSome result
+            (λ bytes. (1 ≤ length bytes.items) × (length bytes.items ≤ most)) }
+        ensures none { IfNone result (self.new ≡ self.old) }
+    {
+        match mem::replace(&mut self.reading, Reading::Lost) {
+            Reading::Gave(chunk) => match chunk.into_whole(most) {
+                Ok(bytes) => {
+                    self.reading = Reading::Idle(None);
+                    self.ask_ahead(rt);
+                    Some(bytes)
+                }
+                Err(chunk) => {
+                    self.reading = Reading::Gave(chunk);
+                    None
+                }
+            },
+            other => {
+                self.reading = other;
+                None
+            }
+        }
     }
 
     // Gives what the last read left. None if it failed.
@@ -119,6 +170,22 @@ impl Input {
     }
 }
 
+// Requests so many reads, the first of them with this buffer. Returns how many were requested: 0 if the thread takes no requests.
+fn request<R: Wait>(
+    rt: &R,
+    requests: &Sender<Option<Buffer>>,
+    first: Option<Buffer>,
+    count: usize,
+) -> usize {
+    let mut buffer = first;
+    for _ in 0..count {
+        if requests.send(rt, buffer.take()).is_err() {
+            return 0;
+        }
+    }
+    count
+}
+
 // Whether this read gave much.
 fn is_ample(reading: &Reading) -> bool {
     match reading {
@@ -133,7 +200,7 @@ fn left_of(chunk: Chunk) -> Reading
     ensures end { ¬ IsEnd result }
 {
     if chunk.is_empty() {
-        Reading::Idle(chunk.into_buffer())
+        Reading::Idle(Some(chunk.into_buffer()))
     } else {
         Reading::Gave(chunk)
     }

@@ -1,5 +1,5 @@
-ghost use Rattle.std.specs.Prelude.{◌≡◌, ◌≤◌, [], length, IfOk, IfErr, IfSome};
-ghost use Rattle.waiting_inputs.specs.Inputs.{Lefts, AddsInput, ReadsInput};
+ghost use Rattle.std.specs.Prelude.{◌≡◌, ◌≤◌, [], length, IfOk, IfErr, IfSome, IfNone};
+ghost use Rattle.waiting_inputs.specs.Inputs.{Lefts, AddsInput, ReadsInput, TakesInput};
 
 use crate::table::Table;
 use crate::thread::Errand;
@@ -30,6 +30,17 @@ pub trait Inputs<F: Read>: Drop {
     /// Asks for what comes next from each of these inputs, and waits until a read of one of them would not wait.
     fn wait(&mut self, inputs: &[usize])
         ensures { lefts self.new ≡ lefts self.old };
+
+    /// Lets the thread of this input be asked for several reads at once, since its reads do not wait for others.
+    fn read_ahead(&mut self, input: usize)
+        ensures { lefts self.new ≡ lefts self.old };
+
+    /// Takes what a read of this input gave without copying it, if that is at most this many bytes, none of them was given, and they are not few.
+    fn take(&mut self, input: usize, most: usize) -> Option<Vec<u8>>
+        ensures told { IfSome result (λ bytes. TakesInput input bytes.items (lefts self.old) (lefts self.new)) }
+        ensures long { IfSome result
+            (λ bytes. (1 ≤ length bytes.items) × (length bytes.items ≤ most)) }
+        ensures none { IfNone result (lefts self.new ≡ lefts self.old) };
 
     /// Reads what comes next from this input: 0 bytes of a nonempty slice only at the end. None if the read failed.
     fn read(&mut self, input: usize, into: &mut [u8]) -> Option<usize>
@@ -126,6 +137,14 @@ impl<R: Wait + Drop, F: Read + Drop, B: Begins> Inputs<F> for ThreadInputs<R, F,
 
     fn wait(&mut self, inputs: &[usize]) {
         self.table.wait(&self.rt, inputs);
+    }
+
+    fn read_ahead(&mut self, input: usize) {
+        self.table.read_ahead(input);
+    }
+
+    fn take(&mut self, input: usize, most: usize) -> Option<Vec<u8>> {
+        self.table.take(&self.rt, input, most)
     }
 
     fn read(&mut self, input: usize, into: &mut [u8]) -> Option<usize> {

@@ -2,6 +2,7 @@
 ghost use Rattle.std.specs.Prelude.{◌≡◌, if◌then◌else◌, IfOk, IfSome, IfNone};
 ghost use Rattle.waiting_inputs.specs.inner.Line.{after, IsNext};
 
+use crate::input::AHEAD;
 use crate::reading::Reading;
 use crossbeam_channel::protocol::{Lesson, Outcome, Protocol, Split};
 use crossbeam_channel::{Pass, RuledReceiver, RuledSender, bounded_with};
@@ -157,7 +158,7 @@ pub(crate) fn ends<F: Read, B: Bytes>(
     requires { F.remaining file.now ≡ B.bytes }
     ensures { IfOk result (λ r. (r.0 ≡ F.remaining file.now) × (r.1 ≡ F.remaining file.now)) }
 {
-    let (to, results, mut taker) = bounded_with::<Reading, Known, InTurn, Global>(alloc, 1)?;
+    let (to, results, mut taker) = bounded_with::<Reading, Known, InTurn, Global>(alloc, AHEAD)?;
     let feeder = to.another::<Halves<B>>(&mut taker);
     Ok((
         Taker {

@@ -1,8 +1,8 @@
-ghost use Rattle.std.specs.Prelude.{◌≡◌, ◌≤◌, ◌-◌, [], ◌∷◌, ◌++◌, length, take, IfOk, IfErr, IfSome};
-ghost use Rattle.waiting_inputs.specs.Inputs.{ReadsInput};
+ghost use Rattle.std.specs.Prelude.{◌≡◌, ◌≤◌, ◌-◌, [], ◌∷◌, ◌++◌, length, take, IfOk, IfErr, IfSome, IfNone};
+ghost use Rattle.waiting_inputs.specs.Inputs.{ReadsInput, TakesInput};
 
 use crate::chunk::Buffer;
-use crate::input::Input;
+use crate::input::{AHEAD, Input};
 use crate::line::{Feeder, ends};
 use crate::thread::{Errand, Source};
 use crossbeam_channel::{Receiver, Sender, bounded};
@@ -10,9 +10,6 @@ use std::alloc::{AllocError, Global};
 use std::io::Read;
 use std::marker::Brand;
 use std::sync::Wait;
-
-// How many bytes a thread reads at most for one request.
-const READ_SIZE: usize = 65_536;
 
 // At most this many notices can be on their way. A thread with one more waits.
 const NOTICES: usize = 64;
@@ -29,7 +26,7 @@ struct Notices {
 struct Begun {
     input: Input,
     results: Feeder,
-    requests: Receiver<Buffer>,
+    requests: Receiver<Option<Buffer>>,
 }
 
 // The inputs, and the notices of their threads.
@@ -73,6 +70,7 @@ impl Table {
             return Err(file);
         }
         Ok(Errand {
+            alloc: self.alloc,
             input,
             source: Source::new(file, begun.results),
             requests: begun.requests,
@@ -133,6 +131,26 @@ impl Table {
         self.ask(rt, input);
         self.take_until_ready(rt, &[input]);
         self.inputs.get_mut(input)?.give_on(rt, into)
+    }
+
+    // Takes what the last read of this input gave without copying it, if that is at most this many bytes, none of them was given, and they are not
+    // few.
+    pub(crate) fn take<R: Wait>(&mut self, rt: &R, input: usize, most: usize) -> Option<Vec<u8>>
+        ensures told { IfSome result (λ bytes. TakesInput input bytes.items self.old.inputs.items self.new.inputs.items) }
+        ensures long { IfSome result
+            (λ bytes. (1 ≤ length bytes.items) × (length bytes.items ≤ most)) }
+        ensures none { IfNone result (self.new.inputs.items ≡ self.old.inputs.items) }
+    {
+        self.inputs.get_mut(input)?.take(rt, most)
+    }
+
+    // Lets the thread of this input be asked for several reads at once.
+    pub(crate) fn read_ahead(&mut self, input: usize)
+        ensures { self.new.inputs.items ≡ self.old.inputs.items }
+    {
+        if let Some(input) = self.inputs.get_mut(input) {
+            input.read_ahead();
+        }
     }
 
     // Asks the thread of this input for a read, if nothing is left of the last one.
@@ -204,17 +222,12 @@ fn begin<F: Read>(alloc: Global, file: &F) -> Result<Begun, AllocError>
     ensures input { IfOk result (λ b. b.input ≡ F.remaining file.now) }
     ensures results { IfOk result (λ b. b.results ≡ F.remaining file.now) }
 {
-    let buffer = buffer(alloc)?;
-    let (to, requests) = bounded(alloc, 1)?;
+    let buffer = Buffer::for_read(alloc)?;
+    let (to, requests) = bounded(alloc, AHEAD)?;
     let (taker, results) = ends::<F, Brand>(alloc, file)?;
     Ok(Begun {
         input: Input::new(to, taker, buffer),
         results,
         requests,
     })
-}
-
-// Room for a read.
-fn buffer(alloc: Global) -> Result<Buffer, AllocError> {
-    Ok(Buffer::new(vec![in alloc; 0; READ_SIZE]?))
 }

@@ -35,10 +35,11 @@ impl<F: Read> Model for Source<F> {
 /// The task of an input's thread: it reads the file once for each request.
 #[derive(Drop)]
 pub struct Errand<F: Read> {
+    pub(crate) alloc: Global,
     // The number of the input.
     pub(crate) input: usize,
     pub(crate) source: Source<F>,
-    pub(crate) requests: Receiver<Buffer>,
+    pub(crate) requests: Receiver<Option<Buffer>>,
     // The thread puts the number on it after each result.
     pub(crate) notices: Sender<usize>,
 }
@@ -49,6 +50,7 @@ impl<F: Read> Errand<F> {
         ensures { result ≡ self.source }
     {
         let Errand {
+            alloc: _,
             input: _,
             source,
             requests: _,
@@ -77,7 +79,7 @@ impl<F: Read> Source<F> {
 
     #[tactic(auto, using(crate::proofs::lemmas::Lines::reads_next))]
     // Reads the file once, into this buffer, and sends the result. None if nobody receives it.
-    fn read_and_send<R: Wait>(self, rt: &R, buffer: Buffer) -> Option<Source<F>>
+    fn read_and_send<R: Wait>(self, rt: &R, buffer: Option<Buffer>) -> Option<Source<F>>
     where
         F: OpensLate<R> + Drop,
     {
@@ -127,6 +129,7 @@ fn take<R: Wait, F: OpensLate<R> + Drop>(rt: &R, errands: Receiver<Errand<F>>) {
 // Reads the file once for each request, until nobody asks any more.
 fn serve<R: Wait, F: OpensLate<R> + Drop>(rt: &R, errand: Errand<F>) {
     let Errand {
+        alloc,
         input,
         mut source,
         requests,
@@ -136,6 +139,7 @@ fn serve<R: Wait, F: OpensLate<R> + Drop>(rt: &R, errand: Errand<F>) {
         let Ok(buffer) = requests.recv(rt) else {
             return;
         };
+        let buffer = buffer.or_else(|| Buffer::for_read(alloc).ok());
         let Some(next) = source.read_and_send(rt, buffer) else {
             return;
         };
@@ -146,14 +150,17 @@ fn serve<R: Wait, F: OpensLate<R> + Drop>(rt: &R, errand: Errand<F>) {
     }
 }
 
-// Opens the file if it is not open, and reads it once, into this buffer.
-fn read_once<R, F: OpensLate<R>>(rt: &R, file: &mut F, mut buffer: Buffer) -> Reading
+// Opens the file if it is not open, and reads it once, into this buffer. With no buffer the read fails.
+fn read_once<R, F: OpensLate<R>>(rt: &R, file: &mut F, buffer: Option<Buffer>) -> Reading
     ensures next { Consumes (F.remaining file.old) (F.remaining file.new) (given result) }
     ensures end { IsEnd result → IsAtEnd (F.remaining file.new) }
 {
+    let Some(mut buffer) = buffer else {
+        return Reading::Failed(None);
+    };
     file.open_late(rt);
     match file.read(buffer.bytes.as_mut_slice()) {
         Ok(count) => Reading::Gave(Chunk::new(buffer, count)),
-        Err(_) => Reading::Failed(buffer),
+        Err(_) => Reading::Failed(Some(buffer)),
     }
 }
