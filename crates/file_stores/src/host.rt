@@ -10,6 +10,7 @@ use crate::mounts::Mounts;
 use crate::patient::HostReader;
 use crate::streams::StandardStreams;
 use crate::writable::Stores;
+use amount::Spare;
 use collector::{Batch, Files, IoFailed, NeededEnd, NotOpened, Opening, Readiness};
 use input::{HostInput, add_reading, ask_each, opened, wait_here};
 use machine::NoMemory;
@@ -23,6 +24,7 @@ use std::marker::Model;
 use std::rt;
 use waiting_inputs::Inputs;
 
+mod amount;
 mod finding;
 mod holding;
 mod input;
@@ -37,6 +39,7 @@ mod writing;
 /// An input whose reads may wait, as a FIFO, a socket or a terminal, is read by the caller as long as it is the only file to wait for. Once
 /// something else may go on meanwhile, it is read by a thread of its own, if it gets one. A FIFO of the file system is opened by what reads it.
 /// An output whose writes may wait is written by a thread of its own while another output has not come to its end. One that is held back is not.
+/// Meanwhile a long regular file is read or written by a thread too: at most as many inputs and as many outputs as there are processors.
 #[derive(Drop)]
 pub struct HostFiles<R: HostHandle, I> {
     rt: R,
@@ -48,6 +51,9 @@ pub struct HostFiles<R: HostHandle, I> {
     outputs: Vec<HostOutput<R>>,
     // How many outputs have not come to their ends.
     unended: usize,
+    // How many long inputs may still get a thread, and how many long outputs.
+    readers: Spare,
+    writers: Spare,
     mounts: Mounts,
     // Whether an output was opened that was there before, while nothing is known of a standard stream.
     has_old_output: bool,
@@ -76,8 +82,14 @@ impl<R: HostHandle, I> Model for HostFiles<R, I> {
 }
 
 impl<R: HostHandle, I: Inputs<HostReader<R>>> HostFiles<R, I> {
-    /// No file is open but the standard streams.
-    pub fn new(rt: R, alloc: Global, streams: StandardStreams, waiting: I) -> HostFiles<R, I>
+    /// No file is open but the standard streams. At most so many long inputs, and so many long outputs, get a thread.
+    pub fn new(
+        rt: R,
+        alloc: Global,
+        streams: StandardStreams,
+        waiting: I,
+        processors: usize,
+    ) -> HostFiles<R, I>
         ensures { result
             ≡ record { openings = []; inputs = []; outputs = []; failures = 0; held_back = false } }
     {
@@ -90,6 +102,8 @@ impl<R: HostHandle, I: Inputs<HostReader<R>>> HostFiles<R, I> {
             inputs: Vec::new(alloc),
             outputs: Vec::new(alloc),
             unended: 0,
+            readers: Spare::new(processors),
+            writers: Spare::new(processors),
             mounts: Mounts::new(),
             has_old_output: false,
             failures: 0,
@@ -249,13 +263,24 @@ impl<R: HostHandle, I: Inputs<HostReader<R>>> Files for HostFiles<R, I> {
 
     fn read(&mut self, file: usize, into: &mut [u8]) -> Result<usize, IoFailed> {
         let input = &mut self.inputs[file];
-        match input.read(&self.rt, &mut self.waiting, into) {
+        let has_others = self.unended >= 2;
+        match input.read(
+            &self.rt,
+            &mut self.waiting,
+            &mut self.readers,
+            has_others,
+            into,
+        ) {
             Some(count) => Ok(count),
             None => {
                 let error = input.logged.last_error();
                 Err(self.fail(error))
             }
         }
+    }
+
+    fn take_read(&mut self, file: usize, most: usize) -> Option<Vec<u8>> {
+        self.inputs[file].take(&mut self.waiting, most)
     }
 
     fn write(&mut self, file: usize, from: &[u8]) -> Result<usize, IoFailed> {
@@ -271,7 +296,13 @@ impl<R: HostHandle, I: Inputs<HostReader<R>>> Files for HostFiles<R, I> {
         if self.unended < 2 {
             return Err(batch);
         }
-        self.outputs[file].hand_over(&self.rt, self.alloc, &mut self.waiting, batch)
+        self.outputs[file].hand_over(
+            &self.rt,
+            self.alloc,
+            &mut self.waiting,
+            &mut self.writers,
+            batch,
+        )
     }
 
     fn settle(&mut self, file: usize) -> Result<Option<Batch>, IoFailed> {

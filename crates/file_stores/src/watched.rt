@@ -174,8 +174,15 @@ fn note_write<W: Watch>(watch: &mut W, is_standard: bool, bytes: &[u8], count: u
 
 // Tells a watch that a file took all of what was handed over.
 fn note_settled<W: Watch>(watch: &mut W, is_standard: bool, batch: &Batch) {
-    let bytes = batch.bytes();
-    note_write(watch, is_standard, bytes, bytes.len());
+    match batch {
+        Batch::Joined(bytes) => note_write(watch, is_standard, bytes.as_slice(), bytes.len()),
+        Batch::Single(piece) => note_write(watch, is_standard, piece.bytes(), piece.len()),
+        Batch::Several(pieces) => {
+            for piece in pieces.as_slice() {
+                note_write(watch, is_standard, piece.bytes(), piece.len());
+            }
+        }
+    }
 }
 
 impl<F: Files, W: Watch> Files for Watched<F, W> {
@@ -226,6 +233,12 @@ impl<F: Files, W: Watch> Files for Watched<F, W> {
             self.watch.note_read(count);
         }
         read
+    }
+
+    fn take_read(&mut self, file: usize, most: usize) -> Option<Vec<u8>> {
+        let bytes = self.inside.take_read(file, most)?;
+        self.watch.note_read(bytes.len());
+        Some(bytes)
     }
 
     fn write(&mut self, file: usize, from: &[u8]) -> Result<usize, IoFailed> {

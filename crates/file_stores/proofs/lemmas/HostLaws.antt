@@ -1,6 +1,7 @@
 -- Files of the host, of which one log changed.
 use Rattle.std.proofs.Common.{◌≡◌, ◌≢◌, ℕ, suc, zero, ◌<◌, List, [], ◌∷◌, ◌++◌, length, get_or, set}
-use Rattle.std.proofs.Common.{Option, Some, IsSome, unwrap_or, refl, sym, ap, ◌∙◌, subst, arith}
+use Rattle.std.proofs.Common.{Option, Some, None, IsSome, IfSome, IfNone, unwrap_or, refl, sym, ap}
+use Rattle.std.proofs.Common.{◌∙◌, subst, append-nil, arith}
 use Rattle.std.specs.Prelude.{slice_get}
 use Rattle.std.proofs.lemmas.Option.{slice_get-get_or}
 use Rattle.collector.specs.Files.{FilesShown, ReadLog, nothing_read, Reads, ReadsOnly, WritesOnly}
@@ -75,6 +76,29 @@ module _ (file : ℕ) (held old new : HostShown) (is : held ≡ old) where
       held = record { standard_input = refl; held = λ k. refl; left_out = same_left kept };
       reads = λ content is was. cc;
     }
+
+    -- an input that is as it was gave nothing
+    gave_nothing : now ≡ was → Reads 0 [] was.log now.log
+    gave_nothing same = record {
+      bytes = ap (λ (i : HostInputShown). i.log.bytes) same ∙ sym (append-nil was.log.bytes);
+      end = λ room none. absurd (omega (arith, room));
+      goes_on = λ none. ap (λ (i : HostInputShown). i.log.at_end) same;
+      after = λ at_end. refl;
+    }
+
+    -- it gave bytes that were read ahead, or is as it was
+    pub host_gave : {T : Type 0} (r : Option T) (items : T → List ℕ)
+        → IfSome r (λ b. Reads (length (items b)) (items b) was.log now.log)
+        → IfSome r (λ b. Reads (length (items b)) (items b) (reads_of (shown_host old) file)
+        (reads_of (shown_host new) file))
+    host_gave (Some b) items told = host_told (length (items b)) (items b) told
+    host_gave None items told = tt
+
+    pub host_takes : {T : Type 0} (r : Option T) (items : T → List ℕ) → now.left ≡ was.left
+        → IfSome r (λ b. Reads (length (items b)) (items b) was.log now.log)
+        → IfNone r (now ≡ was) → ReadsOnly file (shown_host old) (shown_host new)
+    host_takes (Some b) items kept told same = host_reads kept (length (items b)) (items b) told
+    host_takes None items kept told same = host_reads kept 0 [] (gave_nothing same)
 
   module _ (was now : HostOutputShown) (opened : IsSome ((shown_host old).outputs file))
       (log : was ≡ get_or held.outputs file was)

@@ -46,6 +46,17 @@ once_read Never = Never
 once_read Possible = Possible
 once_read Accepted = Possible
 
+-- a read may wait from here on, and is put off unless the caller was to make it next
+abbrev pub put_off : Delay → Delay
+put_off Never = Possible
+put_off Possible = Possible
+put_off Accepted = Accepted
+
+-- an input whose reads by the caller may wait from here on
+abbrev pub put_off_from : {F : Type 0} → InFrom F → InFrom F
+put_off_from (Direct file delay) = Direct file (put_off delay)
+put_off_from (Thread number) = Thread number
+
 -- an input that the caller is to read next, if no thread reads it
 abbrev pub read_next_here : {F : Type 0} → InFrom F → InFrom F
 read_next_here (Direct file delay) = Direct file (accepted delay)

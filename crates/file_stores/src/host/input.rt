@@ -1,9 +1,10 @@
 // The open inputs of the host.
-ghost use Rattle.std.specs.Prelude.{◌≡◌, ◌≤◌, length, take, IfSome, IsNone};
+ghost use Rattle.std.specs.Prelude.{◌≡◌, ◌≤◌, length, take, IfSome, IfNone, IsNone};
 ghost use Rattle.collector.specs.Files.{Reads};
 ghost use Rattle.collector.specs.InputEnds.{left_out_too};
 ghost use Rattle.file_stores.specs.inner.Host.{opened_now};
 
+use super::amount::{Amount, Spare};
 use crate::facts::{Facts, Kind, may_be_one_stream};
 use crate::handle::HostHandle;
 use crate::logged::{LoggedInput, Waiting};
@@ -28,6 +29,8 @@ pub(crate) struct HostInput<R: HostHandle> {
     pub(crate) facts: Option<Facts>,
     // Whether it is the standard input.
     is_standard: bool,
+    // How much of it was read.
+    amount: Amount,
 }
 
 impl<R: HostHandle> Model for HostInput<R> {
@@ -56,6 +59,7 @@ pub(crate) fn opened<R: HostHandle>(found: Found<R>) -> HostInput<R>
         logged,
         facts,
         is_standard,
+        amount: Amount::new(),
     }
 }
 
@@ -89,11 +93,13 @@ impl<R: HostHandle> HostInput<R> {
 
 impl<R: HostHandle> HostInput<R> {
     // Reads once, unless it is at its end. If the caller reads it, and it is a FIFO that is not open, it is opened first. Returns how many bytes
-    // were read. None if the read failed.
+    // were read. None if the read failed. A long file may get a thread after that, if several outputs go on.
     pub(crate) fn read<I: Inputs<HostReader<R>>>(
         &mut self,
         rt: &R,
         waiting: &mut Waiting<I>,
+        spare: &mut Spare,
+        has_others: bool,
         into: &mut [u8],
     ) -> Option<usize>
         ensures count { IfSome result (λ count. count ≤ length into.new) }
@@ -103,7 +109,43 @@ impl<R: HostHandle> HostInput<R> {
         ensures kept { self.new.left ≡ self.old.left }
     {
         self.logged.open(rt);
-        self.logged.read(waiting, into)
+        let count = self.logged.read(waiting, into)?;
+        self.amount = self.amount.with(count);
+        if has_others {
+            self.share(waiting, spare);
+        }
+        Some(count)
+    }
+
+    // Lets a thread read it from here on, if it is a long regular file that the caller reads, and there is a thread for it.
+    fn share<I: Inputs<HostReader<R>>>(&mut self, waiting: &mut Waiting<I>, spare: &mut Spare)
+        ensures { self.new ≡ self.old }
+    {
+        if self.amount.is_long()
+            && is_regular(self.facts)
+            && self.logged.thread().is_none()
+            && spare.take()
+        {
+            self.logged.put_off();
+            self.logged.ask(waiting);
+            self.logged.read_ahead(waiting);
+        }
+    }
+
+    // Takes what a read by a thread gave without copying it, if there are such bytes, and at most this many.
+    pub(crate) fn take<I: Inputs<HostReader<R>>>(
+        &mut self,
+        waiting: &mut Waiting<I>,
+        most: usize,
+    ) -> Option<Vec<u8>>
+        ensures long { IfSome result
+            (λ bytes. (1 ≤ length bytes.items) × (length bytes.items ≤ most)) }
+        ensures told { IfSome result
+            (λ bytes. Reads (length bytes.items) bytes.items self.old.log self.new.log) }
+        ensures none { IfNone result (self.new ≡ self.old) }
+        ensures kept { self.new.left ≡ self.old.left }
+    {
+        self.logged.take(waiting, most)
     }
 
     // Asks a thread for the next bytes of it, if it may wait.

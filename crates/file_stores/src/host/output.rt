@@ -2,9 +2,10 @@
 ghost use Rattle.std.specs.Prelude.{◌≡◌, ◌≤◌, [], ◌++◌, length, take, IfOk, IfErr, IsOk, OnOk, OnErr};
 ghost use Rattle.collector.specs.Files.{batch_bytes, nothing_written, SettlesAll, SettlesSome};
 
+use super::amount::{Amount, Spare};
 use super::writing::WrittenBy;
 use crate::error_number::ErrorNumber;
-use crate::facts::Facts;
+use crate::facts::{Facts, Kind};
 use crate::handle::HostHandle;
 use crate::held::HeldOutput;
 use crate::logged::{LoggedInput, Waiting};
@@ -43,6 +44,8 @@ pub(crate) struct HostOutput<R: HostHandle> {
     held: Option<HeldOutput>,
     // Whether it has come to its end.
     is_ended: bool,
+    // How much the caller has written to it.
+    amount: Amount,
 }
 
 impl<R: HostHandle> Model for HostOutput<R> {
@@ -79,6 +82,7 @@ pub(crate) fn begun<R: HostHandle, I: Inputs<HostReader<R>>>(
         facts,
         held,
         is_ended: false,
+        amount: Amount::new(),
     }
 }
 
@@ -113,18 +117,20 @@ impl<R: HostHandle> HostOutput<R> {
         match self.written.write(from) {
             Ok(count) => {
                 note_held(&mut self.held, count);
+                self.amount = self.amount.with(count);
                 Ok(count)
             }
             Err(error) => Err(error.raw_os_error()),
         }
     }
 
-    // Hands bytes over to the thread that writes to it, if its writes may wait and it is not held back. They come back if it has no thread.
+    // Hands bytes over to the thread that writes to it, if it may have one. They come back if it has none.
     pub(crate) fn hand_over<I: Inputs<HostReader<R>>>(
         &mut self,
         rt: &R,
         alloc: Global,
         waiting: &mut Waiting<I>,
+        spare: &mut Spare,
         batch: Batch,
     ) -> Result<(), Batch>
         ensures free { OnOk result (self.old.log.out ≡ []) }
@@ -132,7 +138,7 @@ impl<R: HostHandle> HostOutput<R> {
             ≡ record { log = record { bytes = self.old.log.bytes; out = batch_bytes batch } }) }
         ensures back { IfErr result (λ back. (back ≡ batch) × (self.new ≡ self.old)) }
     {
-        if self.held.is_some() || !may_wait(self.facts) {
+        if !self.may_have_thread(spare) {
             return Err(batch);
         }
         // It is in this place only until the next line.
@@ -147,6 +153,19 @@ impl<R: HostHandle> HostOutput<R> {
         }
         thread.answers.ask(waiting);
         Ok(())
+    }
+
+    // Whether a thread may write to it: its writes may wait, or it is a long regular file and there is a thread for it. One that is held back has none.
+    fn may_have_thread(&self, spare: &mut Spare) -> bool {
+        if self.held.is_some() {
+            return false;
+        }
+        match self.written_by {
+            _ if may_wait(self.facts) => true,
+            WrittenBy::Caller => is_regular(self.facts) && self.amount.is_long() && spare.take(),
+            WrittenBy::CallerAlone => false,
+            WrittenBy::Thread(_) => true,
+        }
     }
 
     #[tactic(auto, using(crate::proofs::lemmas::HostSettles::settles_some))]
@@ -301,6 +320,14 @@ fn may_wait(facts: Option<Facts>) -> bool {
     match facts {
         Some(facts) => facts.is_stream(),
         None => true,
+    }
+}
+
+// Whether it is known to be a regular file.
+fn is_regular(facts: Option<Facts>) -> bool {
+    match facts {
+        Some(facts) => facts.kind == Kind::Regular,
+        None => false,
     }
 }
 

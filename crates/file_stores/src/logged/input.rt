@@ -1,10 +1,10 @@
-ghost use Rattle.std.specs.Prelude.{◌≡◌, ◌≤◌, ◌↔◌, true, false, length, take, None, Some, IfSome, IsNone, IsTrue};
+ghost use Rattle.std.specs.Prelude.{◌≡◌, ◌≤◌, ◌↔◌, true, false, length, take, None, Some, IfSome, IfNone, IsNone, IsTrue};
 ghost use Rattle.collector.specs.Files.{nothing_read, Reads};
 ghost use Rattle.collector.specs.InputEnds.{IsHeldFirst, IsHeldLeft, left_out_too};
 ghost use Rattle.collector.specs.declared.needed.LeftOut.TheVariants.{Nothing};
-ghost use Rattle.waiting_inputs.specs.Inputs.{Lefts};
+ghost use Rattle.waiting_inputs.specs.Inputs.{Lefts, TakesInput};
 ghost use Rattle.file_stores.specs.inner.Logged.{MovesFile, ReadsOnce, left_of, thread_of, delay_of};
-ghost use Rattle.file_stores.specs.inner.Logged.{is_put_off, accepted, once_read, read_next_here};
+ghost use Rattle.file_stores.specs.inner.Logged.{is_put_off, accepted, once_read, put_off, put_off_from, read_next_here};
 
 use crate::error_number::ErrorNumber;
 use crate::placed::LeavesPart;
@@ -59,6 +59,16 @@ impl Delay {
         match self {
             Delay::Never => Delay::Never,
             Delay::Possible | Delay::Accepted => Delay::Accepted,
+        }
+    }
+
+    // A read is to be put off from here on.
+    fn put_off(self) -> Delay
+        ensures { result ≡ put_off self }
+    {
+        match self {
+            Delay::Never | Delay::Possible => Delay::Possible,
+            Delay::Accepted => Delay::Accepted,
         }
     }
 
@@ -267,6 +277,17 @@ impl<F: Read> LoggedInput<F> {
         }
     }
 
+    // Its reads count as ones that may wait from here on, so that a thread may make them.
+    pub(crate) fn put_off(&mut self)
+        ensures after { self.new ≡ record self.old { from = put_off_from self.old.from } }
+        ensures left { (lefts : Lefts) → left_of F.remaining lefts self.new.from
+            ≡ left_of F.remaining lefts self.old.from }
+    {
+        if let InFrom::Direct(_, delay) = &mut self.from {
+            *delay = delay.put_off();
+        }
+    }
+
     // Asks a thread for the next bytes of it, if it may wait. A thread that has been given it keeps it. If it gets none, the caller reads it next.
     pub(crate) fn ask<I: Inputs<F>>(&mut self, waiting: &mut Waiting<I>)
     where
@@ -281,6 +302,15 @@ impl<F: Read> LoggedInput<F> {
         self.from = from.given_to_thread(&mut waiting.inputs);
         if let InFrom::Thread(number) = self.from {
             waiting.inputs.ask(number);
+        }
+    }
+
+    // Lets the thread that reads it make several reads before they are asked for.
+    pub(crate) fn read_ahead<I: Inputs<F>>(&self, waiting: &mut Waiting<I>)
+        ensures { I.lefts waiting.new.inputs ≡ I.lefts waiting.old.inputs }
+    {
+        if let InFrom::Thread(number) = self.from {
+            waiting.inputs.read_ahead(number);
         }
     }
 
@@ -306,6 +336,30 @@ impl<F: Read> LoggedInput<F> {
         ensures { I.lefts waiting.new.inputs ≡ I.lefts waiting.old.inputs }
     {
         waiting.inputs.wait(threads);
+    }
+
+    // Takes what a read by a thread gave without copying it, if there are such bytes, and at most this many.
+    pub(crate) fn take<I: Inputs<F>>(
+        &mut self,
+        waiting: &mut Waiting<I>,
+        most: usize,
+    ) -> Option<Vec<u8>>
+        ensures long { IfSome result
+            (λ bytes. (1 ≤ length bytes.items) × (length bytes.items ≤ most)) }
+        ensures asked { IfSome result (λ bytes. IfSome (thread_of self.old.from)
+            (λ number. TakesInput number bytes.items (I.lefts waiting.old.inputs) (I.lefts waiting.new.inputs))) }
+        ensures told { IfSome result
+            (λ bytes. Reads (length bytes.items) bytes.items self.old.log self.new.log) }
+        ensures none { IfNone result ((self.new ≡ self.old)
+            × (I.lefts waiting.new.inputs ≡ I.lefts waiting.old.inputs)) }
+        ensures same { self.new ≡ record self.old { log = self.new.log } }
+    {
+        let (InFrom::Thread(number), false) = (&self.from, self.at_end) else {
+            return None;
+        };
+        let bytes = waiting.inputs.take(*number, most)?;
+        self.given.note(bytes.as_slice());
+        Some(bytes)
     }
 
     // Reads once, unless it is at its end. Returns how many bytes were read. None if the read failed.
