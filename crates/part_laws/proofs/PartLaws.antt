@@ -1,4 +1,4 @@
--- Every pipeline of filters divides at the first one that gathers.
+-- Every pipeline of filters divides where its division says.
 use Rattle.part_laws.specs.Laws.{FiltersDivide}
 use Rattle.part_laws.proofs.lemmas.DivisionLaws.{filters_divide}
 use Rattle.part_laws.proofs.lemmas.KeptLines.{newlines_keep_lines}

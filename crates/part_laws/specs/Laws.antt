@@ -1,7 +1,7 @@
 -- The laws by which a pipeline of filters runs over the parts of an input.
-use Rattle.std.specs.Prelude.{◌≡◌, Option, List, ℕ, true, Ok}
+use Rattle.std.specs.Prelude.{◌≡◌, List, true}
 use Rattle.commands.specs.declared.spec.FilterSpec.{FilterSpec}
-use Rattle.part_laws.specs.Divisions.{DividesSo, combined, gathering, mapped}
+use Rattle.part_laws.specs.Divisions.{DividesSo, combined, division, mapped}
 use Rattle.part_laws.specs.Manners.{GoesIn, GoesOn, KeepsLines}
 use Rattle.part_laws.specs.Utilities.{keeps_newlines, manner_of}
 
@@ -14,8 +14,7 @@ EachGoesInItsManner = (f : FilterSpec) → GoesIn (manner_of f) f
 abbrev pub NewlinesKeepLines : Type 0
 NewlinesKeepLines = (f : FilterSpec) → GoesOn (manner_of f) → keeps_newlines f ≡ true → KeepsLines f
 
--- filters of which each goes byte by byte or line by line, up to one that gathers if there is one,
--- divide there
+-- every pipeline of filters divides where its division says
 abbrev pub FiltersDivide : Type 0
-FiltersDivide = (fs : List FilterSpec) (number : Option ℕ) → gathering 0 true fs ≡ Ok number
-    → DividesSo fs (mapped number fs) (combined number fs)
+FiltersDivide = (fs : List FilterSpec)
+    → DividesSo fs (mapped (division true fs) fs) (combined (division true fs) fs)

@@ -26,8 +26,9 @@ abbrev pub KeepsLines : FilterSpec → Type 0
 KeepsLines f = (x : List ℕ) → IsWholeLines x → IsWholeLines (made_of f x)
 
 -- It gathers: if the input is cut at the end of a line, its output is that for its outputs for both
--- parts, joined. So is its output for an output of its own.
+-- parts, joined. So is its output for an output of its own. It makes nothing of nothing.
 pub record GathersParts (f : FilterSpec) : Type 0 where
+  pub nothing : made_of f [] ≡ []
   pub gathers : (x y : List ℕ) → IsWholeLines x
       → made_of f (x ++ y) ≡ made_of f (made_of f x ++ made_of f y)
   pub again : (x : List ℕ) → IsWholeLines x → made_of f (made_of f x) ≡ made_of f x

@@ -10,7 +10,7 @@ pub fn newlines_keep_lines()
     ensures { NewlinesKeepLines }
 {}
 
-/// A pipeline of filters divides at the first one that gathers (POSIX.1-2017 XCU 2.9.2).
+/// A pipeline of filters divides before the first one that needs the whole input, or at the first one that gathers (POSIX.1-2017 XCU 2.9.2).
 pub fn filters_divide()
     ensures { FiltersDivide }
 {}

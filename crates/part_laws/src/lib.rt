@@ -2,7 +2,7 @@
 #![tactic(auto)]
 
 pub use laws::{each_goes_in_its_manner, filters_divide, newlines_keep_lines};
-pub use manner::{Manner, NeedsWhole, WholeCause};
+pub use manner::{Division, Manner, WholeCause};
 pub use utilities::{keeps_newlines, manner_of};
 
 mod laws;

@@ -13,8 +13,6 @@ pub enum WholeCause {
     Squeezes,
     /// It writes a header for each of several inputs.
     Headers,
-    /// It goes by lines, and a command before it loses newlines.
-    LostNewlines,
 }
 
 /// How a filter's output for an input follows from its outputs for the parts of that input.
@@ -30,10 +28,11 @@ pub enum Manner {
     Whole(WholeCause),
 }
 
-/// A command that needs its whole input.
+/// Where a pipeline is divided.
 #[derive(Clone, Copy, Debug, PartialEq, Eq)]
-pub struct NeedsWhole {
-    /// The number of its stage, from 1.
-    pub stage: usize,
-    pub cause: WholeCause,
+pub struct Division {
+    /// How many of its first commands run on each part.
+    pub front: usize,
+    /// How many of its first commands do not run on the joined outputs for the parts.
+    pub before: usize,
 }

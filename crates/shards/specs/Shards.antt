@@ -3,7 +3,7 @@
 --
 -- A shell's script gives the same bytes however its input is read (POSIX.1-2017 XCU 1.4, INPUT
 -- FILES); in parts it does so only if each of its commands can go on from one part to the next.
-use Rattle.std.specs.Prelude.{◌≡◌, ℕ, true, List, [], length, map, Some, Err}
+use Rattle.std.specs.Prelude.{◌≡◌, ℕ, true, List, [], length, map, Some, None}
 use Rattle.std.specs.List.{concat}
 use Rattle.commands.specs.declared.spec.FilterSpec.{FilterSpec}
 use Rattle.pipeline_text.specs.Grammar.{script_of}
@@ -14,7 +14,7 @@ use Rattle.run_types.specs.declared.names.InName.TheVariants as input
 use Rattle.run_types.specs.declared.names.OutName.{OutName}
 use Rattle.run_types.specs.declared.names.OutName.TheVariants as output
 use Rattle.shards.specs.Chains.{IsChain, output_for, status_for}
-use Rattle.part_laws.specs.Divisions.{gathering}
+use Rattle.part_laws.specs.Divisions.{combined, division, made_by, mapped, needs_whole}
 use Rattle.part_laws.specs.Parts.{AreCutAtLines}
 use Rattle.shards.specs.declared.fault.ShardsFault.{ShardsFault}
 use Rattle.shards.specs.declared.fault.ShardsFault.TheVariants as fault
@@ -39,13 +39,24 @@ pub record HasPlan (text : List ℕ) (plan : Planned) : Type 0 where
 abbrev pub LeadsFromTo : Planned → InName → OutName → Type 0
 LeadsFromTo plan from to = (filters : List FilterSpec) × IsChain plan from filters to
 
+-- The first plan does as much as may be done on each part: it writes what the first of these filters
+-- write, up to the first one that needs the whole input, or up to and including the first one that
+-- gathers. The second one writes what the others write, after the one that gathers once more.
+pub record DividesFilters (filters : List FilterSpec) (each joined : Planned) : Type 0 where
+  pub first : (x : List ℕ) → output_for each x
+      ≡ made_by (mapped (division true filters) filters) x
+  pub later : (x : List ℕ) → output_for joined x
+      ≡ made_by (combined (division true filters) filters) x
+  pub some : needs_whole filters ≡ None
+
 -- These two texts are the shards of a plan: they are scripts that give the same bytes. Both read
 -- the standard input. The first writes the standard output, and the second writes to the plan's
--- output.
+-- output. The first does as much as may be done on each part.
 pub record AreShards (plan : Planned) (map_text combine_text : List ℕ) : Type 0 where
   pub from : InName
   pub to : OutName
-  pub leads : LeadsFromTo plan from to
+  pub filters : List FilterSpec
+  pub chain : IsChain plan from filters to
   pub each : Planned
   pub each_is : HasPlan map_text each
   pub each_leads : LeadsFromTo each input.Standard output.Standard
@@ -53,6 +64,7 @@ pub record AreShards (plan : Planned) (map_text combine_text : List ℕ) : Type 
   pub joined_is : HasPlan combine_text joined
   pub joined_leads : LeadsFromTo joined input.Standard to
   pub same : GivesSameBytes plan each joined
+  pub divided : DividesFilters filters each joined
 
 -- a script is one pipeline, without FIFOs, and its plan is the chain of these filters
 pub record IsOnePipeline (script : Script) (plan : Planned) (filters : List FilterSpec) : Type 0
@@ -63,13 +75,13 @@ pub record IsOnePipeline (script : Script) (plan : Planned) (filters : List Filt
     pub to : OutName
     pub chain : IsChain plan from filters to
 
--- Why a script has no shards: it is not one pipeline from one input to one output; or this command
--- is the first that needs its whole input. Otherwise its commands could not be written as scripts
+-- Why a script has no shards: it is not one pipeline from one input to one output; or its first
+-- command needs the whole input. Otherwise its commands could not be written as scripts
 -- again, or memory was refused.
 abbrev pub HasNoShards : Script → Planned → ShardsFault → Type 0
 HasNoShards script plan fault.NotOnePipeline = (filters : List FilterSpec)
     → IsOnePipeline script plan filters → ⊥
 HasNoShards script plan (fault.NeedsWholeInput why) = (filters : List FilterSpec)
-    × IsOnePipeline script plan filters × (gathering 0 true filters ≡ Err why)
+    × IsOnePipeline script plan filters × (needs_whole filters ≡ Some why)
 HasNoShards script plan fault.NotWritten = Unit {0}
 HasNoShards script plan fault.NoMemory = Unit {0}

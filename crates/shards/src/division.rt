@@ -1,42 +1,71 @@
-ghost use Rattle.std.specs.Prelude.{◌≡◌, ◌+◌, ◌<◌, ◌^◌, length};
-ghost use Rattle.part_laws.specs.Divisions.{gathering};
+ghost use Rattle.std.specs.Prelude.{◌≡◌, ◌≤◌, ◌<◌, ◌^◌, ◌+◌, length};
+ghost use Rattle.part_laws.specs.Divisions.{division, needs_whole};
 ghost use Rattle.shards.specs.Chains.{filters_of};
 
-use part_laws::{Manner, NeedsWhole, WholeCause, keeps_newlines, manner_of};
+use part_laws::{Division, Manner, WholeCause, keeps_newlines, manner_of};
 use planner::Node;
 
-/// The number of the first stage that gathers, if each before it goes byte by byte or line by line, or none if all do so. Otherwise the first
-/// stage that needs its whole input. `before` stages come before these, and `at_lines` is whether the parts of their input end at ends of lines.
-pub(crate) fn gathering(
-    stages: &[Node],
-    before: usize,
-    at_lines: bool,
-) -> Result<Option<usize>, NeedsWhole>
-    requires { before + length stages.now < 2 ^ 63 }
-    ensures { result ≡ gathering before at_lines (filters_of stages.now) }
+/// Why the first of these stages needs its whole input, if it does.
+pub(crate) fn needs_whole(stages: &[Node]) -> Option<WholeCause>
+    ensures { result ≡ needs_whole (filters_of stages.now) }
 {
     let [stage, later @ ..] = stages else {
-        return Ok(None);
+        return None;
     };
     let Node::Stage { spec, .. } = stage else {
-        return gathering(later, before, at_lines);
+        return needs_whole(later);
     };
     match manner_of(spec) {
-        Manner::ByBytes => gathering(later, before + 1, at_lines && keeps_newlines(spec)),
-        Manner::ByLines if at_lines => gathering(later, before + 1, keeps_newlines(spec)),
-        Manner::Gathers if at_lines => Ok(Some(before + 1)),
-        Manner::ByLines | Manner::Gathers => Err(refused(before, WholeCause::LostNewlines)),
-        Manner::Whole(cause) => Err(refused(before, cause)),
+        Manner::Whole(cause) => Some(cause),
+        Manner::ByBytes | Manner::ByLines | Manner::Gathers => None,
     }
 }
 
-// The stage after this many others needs the whole input.
-fn refused(before: usize, cause: WholeCause) -> NeedsWhole
-    requires { before < 2 ^ 63 }
-    ensures { result ≡ record { stage = before + 1; cause = cause } }
+/// Where these stages are divided: before the first one that needs its whole input, or at the first one that gathers. `at_lines` is whether the
+/// parts of their input end at ends of lines.
+pub(crate) fn division(stages: &[Node], at_lines: bool) -> Division
+    requires { length stages.now < 2 ^ 63 }
+    ensures value { result ≡ division at_lines (filters_of stages.now) }
+    ensures front { result.front ≤ length stages.now }
+    ensures before { result.before ≤ length stages.now }
 {
-    NeedsWhole {
-        stage: before + 1,
-        cause,
+    let [stage, later @ ..] = stages else {
+        return undivided();
+    };
+    let Node::Stage { spec, .. } = stage else {
+        return division(later, at_lines);
+    };
+    let keeps = at_lines && keeps_newlines(spec);
+    match manner_of(spec) {
+        Manner::ByBytes => after_one(division(later, keeps)),
+        Manner::ByLines if at_lines => after_one(division(later, keeps)),
+        Manner::Gathers if at_lines => Division {
+            front: 1,
+            before: 0,
+        },
+        Manner::ByLines | Manner::Gathers | Manner::Whole(_) => undivided(),
+    }
+}
+
+// None of the stages runs on each part.
+fn undivided() -> Division
+    ensures { result ≡ record { front = 0; before = 0 } }
+{
+    Division {
+        front: 0,
+        before: 0,
+    }
+}
+
+// One stage more runs on each part, before these.
+fn after_one(division: Division) -> Division
+    requires front { division.front < 2 ^ 63 }
+    requires before { division.before < 2 ^ 63 }
+    ensures front { result.front ≡ division.front + 1 }
+    ensures before { result.before ≡ division.before + 1 }
+{
+    Division {
+        front: division.front + 1,
+        before: division.before + 1,
     }
 }

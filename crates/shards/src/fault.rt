@@ -1,5 +1,5 @@
 use machine::NoMemory;
-use part_laws::NeedsWhole;
+use part_laws::WholeCause;
 use std::alloc::AllocError;
 use thiserror::Error;
 
@@ -9,26 +9,15 @@ pub enum ShardsFault {
     /// It is not one pipeline from one input to one output, each command of which reads what the one before it writes.
     #[error("D1 NotOnePipeline")]
     NotOnePipeline,
-    /// A command needs the whole input.
-    #[error("D2 NeedsWholeInput in stage {}", .0.stage)]
-    NeedsWholeInput(NeedsWhole),
+    /// Its first command needs the whole input.
+    #[error("D2 NeedsWholeInput in stage 1")]
+    NeedsWholeInput(WholeCause),
     /// Its commands cannot be written as scripts again.
     #[error("D3 NotWritten")]
     NotWritten,
     /// Memory was refused.
     #[error("D4 NoMemory")]
     NoMemory,
-}
-
-impl From<NeedsWhole> for ShardsFault {
-    ghost use Rattle.std.specs.Prelude.{◌≡◌};
-    ghost use Rattle.shards.specs.declared.fault.ShardsFault.TheVariants as fault;
-
-    ghost from_gives = { λ why given. given ≡ fault.NeedsWholeInput why };
-
-    fn from(why: NeedsWhole) -> ShardsFault {
-        ShardsFault::NeedsWholeInput(why)
-    }
 }
 
 impl From<NoMemory> for ShardsFault {

@@ -59,9 +59,19 @@ impl<'a> Excerpt<'a> {
     fn operands(self, place: usize, command: &Cmd, spec: &FilterSpec) -> usize {
         match (spec, self.from) {
             (FilterSpec::Uniq(uniq), _) if uniq.output.is_some() => 2,
+            (FilterSpec::Uniq(_), InName::File(_)) if place == 0 && ends_with_standard(command) =>
+                2,
             (_, InName::File(_)) if place == 0 && command.source.is_none() => 1,
             _ => 0,
         }
+    }
+}
+
+// Whether the last word of a command that reads a file by an operand is `-`. Of a uniq that is the standard output.
+fn ends_with_standard(command: &Cmd) -> bool {
+    match command.words.as_slice().last() {
+        Some(word) => command.source.is_none() && word.bytes() == b"-".as_slice(),
+        None => false,
     }
 }
 

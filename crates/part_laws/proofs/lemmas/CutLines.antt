@@ -122,6 +122,7 @@ lines_apart x y w = ap (λ (z : List ℕ). lines (z ++ y)) (sym (concat-lines x)
 
 -- what a filter that gathers does, by a function of its input
 pub record GathersBy (made : List ℕ → List ℕ) : Type 0 where
+  pub nothing : made [] ≡ []
   pub gathers : (x y : List ℕ) → IsWholeLines x → made (x ++ y) ≡ made (made x ++ made y)
   pub again : (x : List ℕ) → IsWholeLines x → made (made x) ≡ made x
   pub keeps : (x : List ℕ) → IsWholeLines x → IsWholeLines (made x)
@@ -131,6 +132,7 @@ pub gathers_by : (f : FilterSpec) (made : List ℕ → List ℕ) → ((x : List 
     → GathersBy made → GathersParts f
 gathers_by f made same g =
     record {
+      nothing = same [] ∙ g.nothing;
       gathers = λ x y w.
           same (x ++ y)
           ∙ (g.gathers x y w
@@ -143,6 +145,7 @@ gathers_by f made same g =
 
 -- what a function of lists of lines does that gathers
 pub record GathersLines (kept : List (List ℕ) → List (List ℕ)) : Type 0 where
+  pub nothing : kept [] ≡ []
   pub gathers : (ls ms : List (List ℕ)) → kept (ls ++ ms) ≡ kept (kept ls ++ kept ms)
   pub again : (ls : List (List ℕ)) → kept (kept ls) ≡ kept ls
   pub whole : (ls : List (List ℕ)) → All IsLine ls → All IsLine (kept ls)
@@ -157,6 +160,7 @@ pub lines_gather : (kept : List (List ℕ) → List (List ℕ)) → GathersLines
     → GathersBy (joined_by kept)
 lines_gather kept g =
     record {
+      nothing = ap concat g.nothing;
       gathers = λ x y w.
           let front : All IsLine (kept (lines x)) = g.whole (lines x) (whole_lines x w) in
           let end : AreLines (kept (lines y)) = g.are (lines y) (are_lines y) in

@@ -24,10 +24,15 @@ take_both zero m xs ys h = refl
 take_both (suc n) m [] ys h = sym (take-take (suc n) m ys h)
 take_both (suc n) m (x ∷ xs) ys h = ap (λ zs. x ∷ zs) (take_both n m xs ys (omega (arith, h)))
 
+take_nothing : {X : Type 0} (n : ℕ) → take {A = X} n [] ≡ []
+take_nothing zero = refl
+take_nothing (suc n) = refl
+
 -- the first lines are gathered
 take_gathers : (n : ℕ) → GathersLines (take n)
 take_gathers n =
     record {
+      nothing = take_nothing n;
       gathers = λ ls ms. take_both n n ls ms (omega arith);
       again = λ ls. take-take n n ls (omega arith);
       whole = λ ls h. All-take IsLine n ls h;

@@ -72,10 +72,15 @@ last_both n xs ys =
       | inr enough ↦ last_both_long n xs ys enough
     ]
 
+drop_nothing : {X : Type 0} (n : ℕ) → drop {A = X} n [] ≡ []
+drop_nothing zero = refl
+drop_nothing (suc n) = refl
+
 -- the last lines are gathered
 last_gathers : (n : ℕ) → GathersLines (last_members n)
 last_gathers n =
     record {
+      nothing = drop_nothing (0 - n);
       gathers = λ ls ms. last_both n ls ms;
       again = λ ls. last_again n ls;
       whole = λ ls h. All-drop IsLine (length ls - n) ls h;
@@ -99,6 +104,7 @@ ends_gather : (counted : Counted) (n : ℕ) → GathersBy (tail_of counted End n
 ends_gather Lines n = lines_gather (last_members n) (last_gathers n)
 ends_gather Bytes n =
     record {
+      nothing = drop_nothing (0 - n);
       gathers = λ x y w. last_both n x y;
       again = λ x w. last_again n x;
       keeps = λ x w. whole_drop (length x - n) x w;

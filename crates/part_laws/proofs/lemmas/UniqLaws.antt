@@ -227,6 +227,7 @@ once_clean by x = firsts_all HasNoNewline by (contents_of x) (contents_clean x)
 once_gathers : (by : List ℕ → List ℕ) → GathersBy (shown_once by)
 once_gathers by =
     record {
+      nothing = refl;
       gathers = λ x y w.
           let front = firsts by (contents_of x) [] in
           let end = firsts by (contents_of y) [] in

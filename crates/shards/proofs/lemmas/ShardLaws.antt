@@ -1,9 +1,10 @@
 -- Two texts that write what the divided filters of a chain write are its shards.
-use Rattle.std.proofs.Common.{◌≡◌, ℕ, ◌-◌, true, List, [], ◌∷◌, map, Option, Some, None, Ok, refl}
-use Rattle.std.proofs.Common.{ap, ap₂, ◌∙◌, sym}
+use Rattle.std.proofs.Common.{◌≡◌, ℕ, true, List, [], ◌∷◌, map, take, drop, None, refl, ap, ap₂}
+use Rattle.std.proofs.Common.{◌∙◌, sym}
 use Rattle.std.specs.List.{concat}
 use Rattle.commands.specs.declared.spec.FilterSpec.{FilterSpec}
-use Rattle.part_laws.specs.Divisions.{combined, gathering, made_by, mapped}
+use Rattle.part_laws.specs.Divisions.{combined, division, made_by, mapped, needs_whole}
+use Rattle.part_laws.specs.declared.manner.Division.{Division}
 use Rattle.part_laws.specs.Laws.{FiltersDivide}
 use Rattle.part_laws.specs.Parts.{AreCutAtLines}
 use Rattle.planner.specs.Planned.{Planned}
@@ -13,21 +14,10 @@ use Rattle.run_types.specs.declared.names.InName.TheVariants as input
 use Rattle.run_types.specs.declared.names.OutName.{OutName}
 use Rattle.run_types.specs.declared.names.OutName.TheVariants as output
 use Rattle.shards.specs.Chains.{IsChain, chained, filters_of, output_for}
-use Rattle.shards.specs.inner.Links.{first_stages, last_stages}
 use Rattle.shards.specs.Shards.{AreShards, GivesSameBytes}
 use Rattle.shards.specs.inner.Written.{Writes}
 use Rattle.shards.proofs.lemmas.ChainLaws.{output_is, status_is}
-use Rattle.shards.proofs.lemmas.ChainLists.{filters_chained, filters_dropped, filters_taken}
-
-first_filters : (number : Option ℕ) (fs : List FilterSpec)
-    → filters_of (first_stages number (chained 0 fs)) ≡ mapped number fs
-first_filters None fs = filters_chained 0 fs
-first_filters (Some n) fs = filters_taken 0 n fs
-
-last_filters : (number : Option ℕ) (fs : List FilterSpec)
-    → filters_of (last_stages number (chained 0 fs)) ≡ combined number fs
-last_filters None fs = refl
-last_filters (Some n) fs = filters_dropped 0 (n - 1) fs
+use Rattle.shards.proofs.lemmas.ChainLists.{filters_dropped, filters_taken}
 
 -- the same is made of each part
 each_alike : (f g : List ℕ → List ℕ) (parts : List (List ℕ)) → ((x : List ℕ) → f x ≡ g x)
@@ -36,40 +26,45 @@ each_alike f g [] same = refl
 each_alike f g (x ∷ parts) same = ap₂ (λ (y : List ℕ) (ys : List (List ℕ)). y ∷ ys) (same x)
     (each_alike f g parts same)
 
-module _ (plan : Planned) (from : InName) (to : OutName) (stages : List Node) (number : Option ℕ)
+module _ (plan : Planned) (from : InName) (to : OutName) (stages : List Node)
     (c : IsChain plan from (filters_of stages) to)
     (in_turn : stages ≡ chained 0 (filters_of stages)) where
   abbrev fs : List FilterSpec
   fs = filters_of stages
 
-  first_are : filters_of (first_stages number stages) ≡ mapped number fs
-  first_are = ap (λ (ns : List Node). filters_of (first_stages number ns)) in_turn
-      ∙ first_filters number fs
+  abbrev d : Division
+  d = division true fs
 
-  last_are : filters_of (last_stages number stages) ≡ combined number fs
-  last_are = ap (λ (ns : List Node). filters_of (last_stages number ns)) in_turn
-      ∙ last_filters number fs
+  first_are : filters_of (take d.front stages) ≡ mapped d fs
+  first_are = ap (λ (ns : List Node). filters_of (take d.front ns)) in_turn
+      ∙ filters_taken 0 d.front fs
 
-  module _ (divide : FiltersDivide) (g : gathering 0 true fs ≡ Ok number)
-      (map_text combine_text : List ℕ)
-      (m : Writes map_text (filters_of (first_stages number stages)) output.Standard)
-      (j : Writes combine_text (filters_of (last_stages number stages)) to) where
-    each_is : (x : List ℕ) → output_for m.plan x ≡ made_by (mapped number fs) x
+  last_are : filters_of (drop d.before stages) ≡ combined d fs
+  last_are = ap (λ (ns : List Node). filters_of (drop d.before ns)) in_turn
+      ∙ filters_dropped 0 d.before fs
+
+  module _ (divide : FiltersDivide) (some : needs_whole fs ≡ None) (there : Division)
+      (is : there ≡ d) (map_text combine_text : List ℕ)
+      (m : Writes map_text (filters_of (take there.front stages)) output.Standard)
+      (j : Writes combine_text (filters_of (drop there.before stages)) to) where
+    each_is : (x : List ℕ) → output_for m.plan x ≡ made_by (mapped d fs) x
     each_is x = output_is m.plan input.Standard m.own output.Standard m.chain x
-        ∙ (m.same x ∙ ap (λ (l : List FilterSpec). made_by l x) first_are)
+        ∙ (m.same x ∙ (ap (λ (e : Division). made_by (filters_of (take e.front stages)) x) is
+        ∙ ap (λ (l : List FilterSpec). made_by l x) first_are))
 
-    joined_is : (x : List ℕ) → output_for j.plan x ≡ made_by (combined number fs) x
+    joined_is : (x : List ℕ) → output_for j.plan x ≡ made_by (combined d fs) x
     joined_is x = output_is j.plan input.Standard j.own to j.chain x
-        ∙ (j.same x ∙ ap (λ (l : List FilterSpec). made_by l x) last_are)
+        ∙ (j.same x ∙ (ap (λ (e : Division). made_by (filters_of (drop e.before stages)) x) is
+        ∙ ap (λ (l : List FilterSpec). made_by l x) last_are))
 
     bytes_are : (parts : List (List ℕ)) → AreCutAtLines parts
         → output_for plan (concat parts) ≡ output_for j.plan
         (concat (map (output_for m.plan) parts))
     bytes_are parts cut =
         output_is plan from fs to c (concat parts)
-        ∙ (divide fs number g parts cut
-        ∙ (ap (λ (ys : List (List ℕ)). made_by (combined number fs) (concat ys))
-        (sym (each_alike (output_for m.plan) (made_by (mapped number fs)) parts each_is))
+        ∙ (divide fs parts cut
+        ∙ (ap (λ (ys : List (List ℕ)). made_by (combined d fs) (concat ys))
+        (sym (each_alike (output_for m.plan) (made_by (mapped d fs)) parts each_is))
         ∙ sym (joined_is (concat (map (output_for m.plan) parts)))))
 
     same_bytes : GivesSameBytes plan m.plan j.plan
@@ -84,7 +79,8 @@ module _ (plan : Planned) (from : InName) (to : OutName) (stages : List Node) (n
     are_shards = record {
       from = from;
       to = to;
-      leads = (fs, c);
+      filters = fs;
+      chain = c;
       each = m.plan;
       each_is = m.has_plan;
       each_leads = (m.own, m.chain);
@@ -92,4 +88,5 @@ module _ (plan : Planned) (from : InName) (to : OutName) (stages : List Node) (n
       joined_is = j.has_plan;
       joined_leads = (j.own, j.chain);
       same = same_bytes;
+      divided = record { first = each_is; later = joined_is; some = some };
     }

@@ -1,7 +1,5 @@
 -- The parts of a chain.
-use Rattle.std.specs.Prelude.{◌≡◌, ℕ, suc, ◌-◌, false, List, [], ◌∷◌, ◌++◌, length, take, drop}
-use Rattle.std.specs.Prelude.{Option}
-use Rattle.std.specs.Prelude.{Some, None}
+use Rattle.std.specs.Prelude.{◌≡◌, ℕ, suc, false, List, [], ◌∷◌, ◌++◌, length, Some}
 use Rattle.commands.specs.declared.spec.FilterSpec.{FilterSpec}
 use Rattle.planner.specs.Planned.{Planned}
 use Rattle.planner.specs.declared.plan.Node.{Node}
@@ -9,15 +7,6 @@ use Rattle.planner.specs.declared.plan.Node.TheVariants.{Source, Stage, Sink}
 use Rattle.run_types.specs.declared.names.InName.{InName}
 use Rattle.run_types.specs.declared.names.OutName.{OutName}
 use Rattle.shards.specs.Chains.{chained, filters_of, joints}
-
--- of these stages, those that run on each part, and those that run on the joined outputs
-abbrev pub first_stages : Option ℕ → List Node → List Node
-first_stages None nodes = nodes
-first_stages (Some number) nodes = take number nodes
-
-abbrev pub last_stages : Option ℕ → List Node → List Node
-last_stages None nodes = []
-last_stages (Some number) nodes = drop (number - 1) nodes
 
 -- this is the stage of a filter after this many others in a chain
 abbrev pub IsLink : ℕ → Node → Type 0
