@@ -260,9 +260,9 @@ const SCRIPT_FAULTS: [Explanation; 37] = [
     Explanation {
         code: "D2",
         name: "NeedsWholeInput",
-        meaning: "The command of this number needs the whole input, so the script does not run over an input in parts.",
-        example: "plrun --shards -c 'cut -f 1 in | wc -l'",
-        advice: "End the script before this command, and let the rest run on the output of combine. --hints says why it needs the whole input.",
+        meaning: "The first command needs the whole input, so nothing of the script runs on a part of it.",
+        example: "plrun --shards -c 'wc -l in | tr 0-9 a-j'",
+        advice: "Run the script over the whole input. --hints says why the command needs it.",
     },
     Explanation {
         code: "D3",

@@ -3,7 +3,7 @@ use crate::hint::Hint;
 use crate::uses::{Use, command, place_of, uses_of};
 use command_words::Span;
 use commands::FilterSpec;
-use part_laws::{NeedsWhole, WholeCause, keeps_newlines};
+use part_laws::WholeCause;
 use pipeline_text::{Cmd, Pipeline, Script};
 use shards::ShardsFault;
 use std::alloc::Global;
@@ -20,27 +20,17 @@ pub(crate) fn add_shards_fault(
             add_shape(script, hint)?;
             hint.repair("shards are for one pipeline from one input to one output")
         }
-        ShardsFault::NeedsWholeInput(needs) => add_whole(script, *needs, hint),
+        ShardsFault::NeedsWholeInput(cause) => add_whole(script, *cause, hint),
         ShardsFault::NotWritten => hint.repair("write its words more simply"),
         ShardsFault::NoMemory => hint.point(None, "", "memory was refused"),
     }
 }
 
-// Marks the name of a command that needs its whole input with the reason, and says what to do.
-fn add_whole(script: &Script, needs: NeedsWhole, hint: &mut Hint<'_>) -> io::Result<()> {
-    let place = command(script, needs.stage).and_then(name_of);
-    hint.mark(place, reason(needs.cause))?;
-    if needs.cause == WholeCause::LostNewlines {
-        if let Some(place) = newline_loser(hint.alloc, script, needs.stage) {
-            hint.mark_again(place, "this one loses newlines")?;
-        }
-    }
-    match needs.stage {
-        0 | 1 => hint.advise(
-            "it is the first command, so nothing of the script runs on a part of its input",
-        ),
-        _ => hint.advise("end the script before it, and let the rest run on the output of combine"),
-    }
+// Marks the name of the first command, which needs its whole input, with the reason.
+fn add_whole(script: &Script, cause: WholeCause, hint: &mut Hint<'_>) -> io::Result<()> {
+    let place = command(script, 1).and_then(name_of);
+    hint.mark(place, reason(cause))?;
+    hint.advise("it is the first command, so nothing of the script runs on a part of its input")
 }
 
 // Why a command needs its whole input.
@@ -54,25 +44,12 @@ fn reason(cause: WholeCause) -> &'static str {
         WholeCause::Squeezes =>
             "tr squeezes newlines, or deletes them and squeezes bytes, and a run may go from one part to the next",
         WholeCause::Headers => "head writes a header for each input",
-        WholeCause::LostNewlines => "it goes by lines, and a tr before it loses newlines",
     }
 }
 
 // The place of the name of a command.
 fn name_of(command: &Cmd) -> Option<Span> {
     command.words.as_slice().first()?.place()
-}
-
-// The place of the name of the first command before this one that loses newlines.
-fn newline_loser(alloc: Global, script: &Script, stage: usize) -> Option<Span> {
-    for number in 1..stage {
-        let found = command(script, number)?;
-        match FilterSpec::read(alloc, found.words.as_slice()) {
-            Ok(spec) if !keeps_newlines(&spec) => return name_of(found),
-            _ => {}
-        }
-    }
-    None
 }
 
 // Marks what a script has that one pipeline from one input to one output has not.
