@@ -75,7 +75,7 @@ def content(dice):
 
 
 def parts(dice, whole, count):
-    """An input in so many parts, each cut at the end of a line, or at the beginning or the end of all. Some may be empty."""
+    """An input in so many parts, each cut at the end of a line, or at the beginning or the end of all. Some may be empty, as those after the end."""
     ends = [0, len(whole)] + [place + 1 for place, byte in enumerate(whole) if byte == 10]
     cuts = [0] + sorted(dice.one_of(ends) for _ in range(count - 1)) + [len(whole)]
     return [whole[start:end] for start, end in zip(cuts, cuts[1:])]
