@@ -20,7 +20,7 @@ use std::io::Write;
 use std::marker::Sync;
 use std::process::ExitCode;
 use std::sync::Wait;
-use std::thread::Threads;
+use std::thread::{self, Threads};
 use waiting_inputs::{ByCall, Inputs, ThreadInputs, begin_thread, errands};
 
 mod advice;
@@ -86,6 +86,14 @@ fn main(rt: HostRuntime) -> ExitCode {
     ExitCode::from(status)
 }
 
+// How many processors the machine has, if that can be known.
+fn processors<R: Threads>(rt: &R) -> usize {
+    match thread::available_parallelism(rt) {
+        Ok(count) => count.get(),
+        Err(_) => 1,
+    }
+}
+
 // Runs the command of the process over what the system hands over: its words, its folder, its files, and one of them for the statistics. Returns
 // the exit status.
 fn begin_here<
@@ -101,7 +109,7 @@ fn begin_here<
     let rt = process.rt;
     let alloc = process.alloc;
     let streams = process.streams;
-    let files = HostFiles::new(host, alloc, streams, inputs);
+    let files = HostFiles::new(host, alloc, streams, inputs, processors(process.threads));
     process.begin(
         &HostWords(rt),
         &mut HostFolder::new(rt, alloc),
