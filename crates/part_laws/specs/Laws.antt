@@ -1,9 +1,10 @@
 -- The laws by which a pipeline of filters runs over the parts of an input.
-use Rattle.std.specs.Prelude.{◌≡◌, List, true}
+use Rattle.std.specs.Prelude.{◌≡◌, ℕ, List, true}
 use Rattle.commands.specs.declared.spec.FilterSpec.{FilterSpec}
-use Rattle.part_laws.specs.Divisions.{DividesSo, combined, division, mapped}
-use Rattle.part_laws.specs.Manners.{GoesIn, GoesOn, KeepsLines}
-use Rattle.part_laws.specs.Utilities.{keeps_newlines, manner_of}
+use Rattle.part_laws.specs.Divisions.{DividesSo, halves, IsLongest}
+use Rattle.part_laws.specs.Manners.{GathersParts, GoesIn, GoesOn, KeepsLines, made_of}
+use Rattle.part_laws.specs.Manners.{MakesLineOfLine}
+use Rattle.part_laws.specs.Utilities.{gather_together, keeps_newlines, makes_line_of_line, manner_of}
 
 -- each filter goes in the manner of its utility (POSIX.1-2017 XCU, the pages of the utilities)
 abbrev pub EachGoesInItsManner : Type 0
@@ -14,7 +15,16 @@ EachGoesInItsManner = (f : FilterSpec) → GoesIn (manner_of f) f
 abbrev pub NewlinesKeepLines : Type 0
 NewlinesKeepLines = (f : FilterSpec) → GoesOn (manner_of f) → keeps_newlines f ≡ true → KeepsLines f
 
--- every pipeline of filters divides where its division says
-abbrev pub FiltersDivide : Type 0
-FiltersDivide = (fs : List FilterSpec)
-    → DividesSo fs (mapped (division true fs) fs) (combined (division true fs) fs)
+-- filters that are said to make a line of each line do so
+abbrev pub LinesAreMadeOfLines : Type 0
+LinesAreMadeOfLines = (f : FilterSpec) → makes_line_of_line f ≡ true → MakesLineOfLine f
+
+-- two filters that are said to gather together do so
+abbrev pub RunsAreGatheredBeforeHeads : Type 0
+RunsAreGatheredBeforeHeads = (f g : FilterSpec) → gather_together f g ≡ true
+    → GathersParts (λ (x : List ℕ). made_of g (made_of f x))
+
+-- every pipeline of filters divides into its halves, and the first half is the longest
+pub record FiltersDivide : Type 0 where
+  pub same : (fs : List FilterSpec) → DividesSo fs (halves true fs).each (halves true fs).joined
+  pub longest : (fs : List FilterSpec) → IsLongest (halves true fs).each (halves true fs).joined

@@ -1,3 +1,4 @@
+pub mod Additions
 pub mod Divisions
 pub mod Laws
 pub mod Manners

@@ -1,8 +1,10 @@
 /// Why a filter needs its whole input.
 #[derive(Clone, Copy, Debug, PartialEq, Eq)]
 pub enum WholeCause {
-    /// It counts what is in it.
+    /// It counts bytes.
     Counts,
+    /// It writes the name of its input.
+    NamesInput,
     /// It joins lines.
     JoinsLines,
     /// It counts lines or bytes from the beginning.
@@ -15,6 +17,17 @@ pub enum WholeCause {
     Headers,
 }
 
+/// A command that is not in the script. It is added after the commands that run on each part, or before those that run on the joined outputs.
+#[derive(Clone, Copy, Debug, PartialEq, Eq)]
+pub enum Addition {
+    /// Keeps the newlines alone: `tr -cd '\n'`.
+    KeepNewlines,
+    /// Makes one byte of each word: `tr -cs '[:space:]' '[x*]'`.
+    MarkWords,
+    /// Squeezes runs of this byte: `tr -s`.
+    Squeeze(u8),
+}
+
 /// How a filter's output for an input follows from its outputs for the parts of that input.
 #[derive(Clone, Copy, Debug, PartialEq, Eq)]
 pub enum Manner {
@@ -24,15 +37,12 @@ pub enum Manner {
     ByLines,
     /// It gathers: its output for its outputs for the parts, if the input is cut at ends of lines.
     Gathers,
+    /// It counts: as much in the input as in what the addition makes of it.
+    Counts(Addition),
+    /// It squeezes: its outputs for the parts, one after another, with runs of this byte squeezed, if the input is cut at ends of lines.
+    Squeezes(u8),
+    /// It skips first lines. So it runs on the joined outputs alone, and may do so after commands that make a line of each line.
+    Skips,
     /// Not at all: it needs the whole input.
     Whole(WholeCause),
-}
-
-/// Where a pipeline is divided.
-#[derive(Clone, Copy, Debug, PartialEq, Eq)]
-pub struct Division {
-    /// How many of its first commands run on each part.
-    pub front: usize,
-    /// How many of its first commands do not run on the joined outputs for the parts.
-    pub before: usize,
 }

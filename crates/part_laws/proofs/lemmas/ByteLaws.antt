@@ -45,7 +45,8 @@ pub none_squeezed : (last : Option ℕ) (xs : List ℕ) → squeezed None last x
 none_squeezed last [] = refl
 none_squeezed last (x ∷ xs) = ap (λ (ys : List ℕ). x ∷ ys) (none_squeezed (Some x) xs)
 
-plain_out : (s : TrSpec) (x : List ℕ) → s.squeezed ≡ None → made_of (spec.Tr s) x ≡ translated s x
+-- what tr that squeezes nothing writes
+pub plain_out : (s : TrSpec) (x : List ℕ) → s.squeezed ≡ None → made_of (spec.Tr s) x ≡ translated s x
 plain_out s x e = ap (λ (set : Option (List Bool)). tr_out s set x) e
     ∙ (none_squeezed None (translated s (x ++ [])) ∙ ap (translated s) (append-nil x))
 

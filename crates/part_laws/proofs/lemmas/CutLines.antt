@@ -8,8 +8,7 @@ use Rattle.std.proofs.lemmas.Bool.{eqb-true}
 use Rattle.std.proofs.lemmas.List.Elements.{All-head, All-tail, All-cons, All-nil}
 use Rattle.machine.proofs.LinesLaws.{concat-lines, lines-append, lines-concat, lines_are_lines}
 use Rattle.machine.specs.Lines.{newline, lines, IsLine, AreLines}
-use Rattle.commands.specs.declared.spec.FilterSpec.{FilterSpec}
-use Rattle.part_laws.specs.Manners.{made_of, GathersParts}
+use Rattle.part_laws.specs.Manners.{GathersParts}
 use Rattle.part_laws.specs.Parts.{IsWholeLines}
 
 -- a byte that is no newline
@@ -65,7 +64,7 @@ whole_joined x y v w =
     ]
 
 -- a line is whole lines
-line_is_whole : (l : List ℕ) → IsLine l → IsWholeLines l
+pub line_is_whole : (l : List ℕ) → IsLine l → IsWholeLines l
 line_is_whole l w = inr (w.0, w.2)
 
 -- lines that end with newlines are whole lines once joined
@@ -120,26 +119,19 @@ pub lines_apart : (x y : List ℕ) → IsWholeLines x → lines (x ++ y) ≡ lin
 lines_apart x y w = ap (λ (z : List ℕ). lines (z ++ y)) (sym (concat-lines x))
     ∙ lines-append (lines x) y (whole_lines x w)
 
--- what a filter that gathers does, by a function of its input
-pub record GathersBy (made : List ℕ → List ℕ) : Type 0 where
-  pub nothing : made [] ≡ []
-  pub gathers : (x y : List ℕ) → IsWholeLines x → made (x ++ y) ≡ made (made x ++ made y)
-  pub again : (x : List ℕ) → IsWholeLines x → made (made x) ≡ made x
-  pub keeps : (x : List ℕ) → IsWholeLines x → IsWholeLines (made x)
-
--- a filter gathers if a function does that gives the same
-pub gathers_by : (f : FilterSpec) (made : List ℕ → List ℕ) → ((x : List ℕ) → made_of f x ≡ made x)
-    → GathersBy made → GathersParts f
-gathers_by f made same g =
+-- a function gathers if one does that gives the same
+pub gathers_by : (out made : List ℕ → List ℕ) → ((x : List ℕ) → out x ≡ made x)
+    → GathersParts made → GathersParts out
+gathers_by out made same g =
     record {
       nothing = same [] ∙ g.nothing;
       gathers = λ x y w.
           same (x ++ y)
           ∙ (g.gathers x y w
           ∙ (ap (λ (z : List ℕ). made (z ++ made y)) (sym (same x))
-          ∙ (ap (λ (z : List ℕ). made (made_of f x ++ z)) (sym (same y))
-          ∙ sym (same (made_of f x ++ made_of f y)))));
-      again = λ x w. same (made_of f x) ∙ (ap made (same x) ∙ (g.again x w ∙ sym (same x)));
+          ∙ (ap (λ (z : List ℕ). made (out x ++ z)) (sym (same y))
+          ∙ sym (same (out x ++ out y)))));
+      again = λ x w. same (out x) ∙ (ap made (same x) ∙ (g.again x w ∙ sym (same x)));
       keeps = λ x w. subst IsWholeLines (sym (same x)) (g.keeps x w);
     }
 
@@ -157,7 +149,7 @@ joined_by kept x = concat (kept (lines x))
 
 -- a function of streams gathers if it does so by lines
 pub lines_gather : (kept : List (List ℕ) → List (List ℕ)) → GathersLines kept
-    → GathersBy (joined_by kept)
+    → GathersParts (joined_by kept)
 lines_gather kept g =
     record {
       nothing = ap concat g.nothing;

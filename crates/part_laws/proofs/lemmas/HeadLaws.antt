@@ -10,7 +10,7 @@ use Rattle.machine.specs.Lines.{newline, IsLine}
 use Rattle.commands.specs.Head.{head_of, under_header}
 use Rattle.commands.specs.declared.head_words.HeadSpec.{HeadSpec}
 use Rattle.commands.specs.declared.spec.FilterSpec.TheVariants as spec
-use Rattle.part_laws.specs.Manners.{GathersParts, GoesIn}
+use Rattle.part_laws.specs.Manners.{GathersParts, GoesIn, made_of}
 use Rattle.part_laws.specs.Utilities.{manner_of}
 use Rattle.part_laws.specs.declared.manner.Manner.TheVariants.{Gathers, Whole}
 use Rattle.part_laws.specs.declared.manner.WholeCause.TheVariants as cause
@@ -24,7 +24,7 @@ take_both zero m xs ys h = refl
 take_both (suc n) m [] ys h = sym (take-take (suc n) m ys h)
 take_both (suc n) m (x ∷ xs) ys h = ap (λ zs. x ∷ zs) (take_both n m xs ys (omega (arith, h)))
 
-take_nothing : {X : Type 0} (n : ℕ) → take {A = X} n [] ≡ []
+pub take_nothing : {X : Type 0} (n : ℕ) → take {A = X} n [] ≡ []
 take_nothing zero = refl
 take_nothing (suc n) = refl
 
@@ -46,12 +46,16 @@ head_out : (b : Bool) (n : ℕ) (names : List (List ℕ)) (x : List ℕ) → b �
 head_out true n names x h = absurd (false≢true (sym h))
 head_out false n names x h = append-nil (head_of n x)
 
+-- the same of its standard input
+pub head_is : (s : HeadSpec) → nat_le 2 (length s.inputs) ≡ false → (x : List ℕ)
+    → made_of (spec.Head s) x ≡ head_of s.count x
+head_is s h x = head_out (nat_le 2 (length s.inputs)) s.count s.inputs x h
+
 -- head of one input gathers
-pub head_gathers : (s : HeadSpec) → nat_le 2 (length s.inputs) ≡ false → GathersParts (spec.Head s)
+pub head_gathers : (s : HeadSpec) → nat_le 2 (length s.inputs) ≡ false → GathersParts (made_of (spec.Head s))
 head_gathers s h =
-    gathers_by (spec.Head s) (joined_by (take s.count))
-    (λ x. head_out (nat_le 2 (length s.inputs)) s.count s.inputs x h)
-    (lines_gather (take s.count) (take_gathers s.count))
+    gathers_by (made_of (spec.Head s)) (joined_by (take s.count))
+    (head_is s h) (lines_gather (take s.count) (take_gathers s.count))
 
 head_by : (s : HeadSpec) (b : Bool) → nat_le 2 (length s.inputs) ≡ b
     → GoesIn (cond b (Whole cause.Headers) Gathers) (spec.Head s)

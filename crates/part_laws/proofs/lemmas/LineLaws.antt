@@ -24,7 +24,8 @@ use Rattle.part_laws.proofs.lemmas.LinesOfParts.{whole_lines_end}
 abbrev of_line : CutSpec → List ℕ → List ℕ
 of_line s = cut_line (is_selected s.ranges) s.parts
 
-cut_plain : (s : CutSpec) (x : List ℕ) → made_of (spec.Cut s) x ≡ flat_map (of_line s) (lines x)
+-- what cut writes
+pub cut_plain : (s : CutSpec) (x : List ℕ) → made_of (spec.Cut s) x ≡ flat_map (of_line s) (lines x)
 cut_plain s x = ap (flat_map (of_line s)) (append-nil (lines x))
 
 -- cut goes line by line

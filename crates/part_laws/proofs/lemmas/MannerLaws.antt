@@ -4,9 +4,10 @@ use Rattle.part_laws.specs.Laws.{EachGoesInItsManner}
 use Rattle.part_laws.proofs.lemmas.ByteLaws.{cat_by_bytes, tee_by_bytes}
 use Rattle.part_laws.proofs.lemmas.HeadLaws.{head_goes}
 use Rattle.part_laws.proofs.lemmas.LineLaws.{cut_by_lines, fold_by_lines}
-use Rattle.part_laws.proofs.lemmas.SqueezeLaws.{tr_in_its_manner}
 use Rattle.part_laws.proofs.lemmas.TailLaws.{tail_goes}
+use Rattle.part_laws.proofs.lemmas.TrManner.{tr_in_its_manner}
 use Rattle.part_laws.proofs.lemmas.UniqLaws.{uniq_goes}
+use Rattle.part_laws.proofs.lemmas.WcLaws.{wc_goes}
 
 pub each_goes : EachGoesInItsManner
 each_goes (spec.Cat s) = cat_by_bytes s
@@ -18,4 +19,4 @@ each_goes (spec.Tail s) = tail_goes s
 each_goes (spec.Tee s) = tee_by_bytes s
 each_goes (spec.Tr s) = tr_in_its_manner s
 each_goes (spec.Uniq s) = uniq_goes s
-each_goes (spec.Wc s) = tt
+each_goes (spec.Wc s) = wc_goes s

@@ -3,20 +3,16 @@ use Rattle.std.proofs.Common.{◌≡◌, ℕ, Bool, true, false, cond, not, eqb,
 use Rattle.std.proofs.Common.{Option, Some, None, map, refl, ap, ◌∙◌, sym}
 use Rattle.std.proofs.Common.{subst, inl, inr}
 use Rattle.std.specs.List.{filter}
-use Rattle.std.proofs.lemmas.Bool.{and_left, and_parts, and_right, eqb-true, not-true}
+use Rattle.std.proofs.lemmas.Bool.{and_left, and_parts, and_right, eqb-true, false≢true, not-false}
 use Rattle.std.proofs.lemmas.List.{append-nil, map-append}
 use Rattle.std.proofs.lemmas.List.Elements.{filter-append}
 use Rattle.machine.specs.Lines.{newline}
 use Rattle.commands.specs.declared.spec.FilterSpec.TheVariants as spec
 use Rattle.tr_words.specs.declared.tr_words.TrSpec.{TrSpec}
 use Rattle.tr_words.specs.Tr.{in_set, last_of, squeezed, stays, translated, with_last}
-use Rattle.part_laws.specs.Parts.{IsWholeLines}
-use Rattle.part_laws.specs.Manners.{GoesByLines, GoesIn, GoesOn, KeepsLines, made_of}
-use Rattle.part_laws.specs.Utilities.{deletes_newline, keeps_newlines, newline_becomes}
-use Rattle.part_laws.specs.Utilities.{squeezing_manner, tr_manner}
-use Rattle.part_laws.specs.declared.manner.Manner.TheVariants.{ByLines, Whole}
-use Rattle.part_laws.specs.declared.manner.WholeCause.TheVariants as cause
-use Rattle.part_laws.proofs.lemmas.ByteLaws.{tr_by_bytes, translated-append, translated_newline}
+use Rattle.part_laws.specs.Manners.{GoesByLines, made_of}
+use Rattle.part_laws.specs.Utilities.{deletes_newline, newline_becomes}
+use Rattle.part_laws.proofs.lemmas.ByteLaws.{translated-append, translated_newline}
 
 with_last-append : (l : Option ℕ) (xs ys : List ℕ)
     → with_last l (xs ++ ys) ≡ with_last l xs ++ with_last (last_of l xs) ys
@@ -25,7 +21,7 @@ with_last-append l (x ∷ xs) ys = ap (λ (ps : List (Option ℕ × ℕ)). (l, x
     (with_last-append (Some x) xs ys)
 
 -- bytes of two parts are squeezed one part after the other
-squeezed-append : (set : Option (List Bool)) (l : Option ℕ) (xs ys : List ℕ)
+pub squeezed-append : (set : Option (List Bool)) (l : Option ℕ) (xs ys : List ℕ)
     → squeezed set l (xs ++ ys) ≡ squeezed set l xs ++ squeezed set (last_of l xs) ys
 squeezed-append set l xs ys =
     ap (λ (ps : List (Option ℕ × ℕ)). map (λ (p : Option ℕ × ℕ). p.1) (filter (stays set) ps))
@@ -34,19 +30,35 @@ squeezed-append set l xs ys =
     (filter-append (stays set) (with_last l xs) (with_last (last_of l xs) ys))
     ∙ map-append _ _ _)
 
-last_of-push : (l : Option ℕ) (xs : List ℕ) (c : ℕ) → last_of l (xs ++ c ∷ []) ≡ Some c
+pub last_of-push : (l : Option ℕ) (xs : List ℕ) (c : ℕ) → last_of l (xs ++ c ∷ []) ≡ Some c
 last_of-push l [] c = refl
 last_of-push l (x ∷ xs) c = last_of-push (Some x) xs c
 
 -- a first byte that stays
-first_stays : (set : Option (List Bool)) (l : Option ℕ) (y : ℕ) (ys : List ℕ)
+pub first_stays : (set : Option (List Bool)) (l : Option ℕ) (y : ℕ) (ys : List ℕ)
     → stays set (l, y) ≡ true → squeezed set l (y ∷ ys) ≡ y ∷ squeezed set (Some y) ys
 first_stays set l y ys h =
     let later : List (Option ℕ × ℕ) = filter (stays set) (with_last (Some y) ys) in
     ap (λ (b : Bool). map (λ (p : Option ℕ × ℕ). p.1) (cond b ((l, y) ∷ later) later)) h
 
-stays_first : (set : Option (List Bool)) (y : ℕ) → stays set (None, y) ≡ true
+-- a first byte that goes
+pub first_goes : (set : Option (List Bool)) (l : Option ℕ) (y : ℕ) (ys : List ℕ)
+    → stays set (l, y) ≡ false → squeezed set l (y ∷ ys) ≡ squeezed set (Some y) ys
+first_goes set l y ys h =
+    let later : List (Option ℕ × ℕ) = filter (stays set) (with_last (Some y) ys) in
+    ap (λ (b : Bool). map (λ (p : Option ℕ × ℕ). p.1) (cond b ((l, y) ∷ later) later)) h
+
+pub stays_first : (set : Option (List Bool)) (y : ℕ) → stays set (None, y) ≡ true
 stays_first set y = ap not (and_right (in_set set y) false refl)
+
+-- a byte that goes is in the set, and the byte before it is the same
+pub goes_from : (set : Option (List Bool)) (l : Option ℕ) (y : ℕ) → stays set (l, y) ≡ false
+    → (in_set set y ≡ true) × (l ≡ Some y)
+goes_from set None y h = absurd (false≢true (sym h ∙ stays_first set y))
+goes_from set (Some c) y h =
+    let both = and_parts (in_set set y) (eqb c y)
+    (not-false (in_set set y && eqb c y) h) in
+    (both.0, ap (λ (n : ℕ). Some n) (eqb-true c y both.1))
 
 -- a byte after one that is not in the set stays
 stays_after : (set : Option (List Bool)) (c y : ℕ) (b : Bool) → eqb c y ≡ b → in_set set c ≡ false
@@ -63,21 +75,21 @@ squeezed_anew set c (y ∷ ys) h = first_stays set (Some c) y ys
     (stays_after set c y (eqb c y) refl h) ∙ sym (first_stays set None y ys (stays_first set y))
 
 -- a byte that is not in the set stays
-other_stays : (set : Option (List Bool)) (l : Option ℕ) (c : ℕ) → in_set set c ≡ false
+pub other_stays : (set : Option (List Bool)) (l : Option ℕ) (c : ℕ) → in_set set c ≡ false
     → squeezed set l (c ∷ []) ≡ c ∷ []
 other_stays set l c h = first_stays set l c [] (ap not (and_left (in_set set c) _ h))
 
 -- newlines are neither deleted nor become bytes that are squeezed
-record KeepsApart (s : TrSpec) : Type 0 where
-  stays_in : deletes_newline s ≡ false
-  is_other : in_set s.squeezed (newline_becomes s) ≡ false
+pub record KeepsApart (s : TrSpec) : Type 0 where
+  pub stays_in : deletes_newline s ≡ false
+  pub is_other : in_set s.squeezed (newline_becomes s) ≡ false
 
-translated_lines : (s : TrSpec) (front : List ℕ) → deletes_newline s ≡ false
+pub translated_lines : (s : TrSpec) (front : List ℕ) → deletes_newline s ≡ false
     → translated s (front ++ newline ∷ []) ≡ translated s front ++ newline_becomes s ∷ []
 translated_lines s front h = translated-append s front (newline ∷ [])
     ∙ ap (λ (z : List ℕ). translated s front ++ z) (translated_newline s h)
 
-tr_plain : (s : TrSpec) (x : List ℕ) → made_of (spec.Tr s) x
+pub tr_plain : (s : TrSpec) (x : List ℕ) → made_of (spec.Tr s) x
     ≡ squeezed s.squeezed None (translated s x)
 tr_plain s x = ap (λ (z : List ℕ). squeezed s.squeezed None (translated s z)) (append-nil x)
 
@@ -99,7 +111,7 @@ tr_anew s k front y =
     ∙ (ap (λ (z : List ℕ). z ++ squeezed s.squeezed None (translated s y)) (sym (tr_plain s x))
     ∙ ap (λ (z : List ℕ). made_of (spec.Tr s) x ++ z) (sym (tr_plain s y)))))))
 
-tr_by_lines : (s : TrSpec) → KeepsApart s → GoesByLines (spec.Tr s)
+pub tr_by_lines : (s : TrSpec) → KeepsApart s → GoesByLines (spec.Tr s)
 tr_by_lines s k x y w =
     elim w [
       | inl none ↦
@@ -108,77 +120,4 @@ tr_by_lines s k x y w =
       | inr v ↦
           subst (λ (z : List ℕ). made_of (spec.Tr s) (z ++ y)
           ≡ made_of (spec.Tr s) z ++ made_of (spec.Tr s) y) (sym v.1) (tr_anew s k v.0 y)
-    ]
-
-apart_from : (s : TrSpec) (set : List Bool) → s.squeezed ≡ Some set
-    → (not (deletes_newline s) && not (in_set (Some set) (newline_becomes s))) ≡ true
-    → KeepsApart s
-apart_from s set e h =
-    let both = and_parts (not (deletes_newline s))
-    (not (in_set (Some set) (newline_becomes s))) h in
-    record {
-      stays_in = not-true (deletes_newline s) both.0;
-      is_other = ap (λ (o : Option (List Bool)). in_set o (newline_becomes s)) e
-          ∙ not-true (in_set (Some set) (newline_becomes s)) both.1;
-    }
-
-goes_by_test : (s : TrSpec) (b : Bool) → (b ≡ true → KeepsApart s)
-    → GoesIn (cond b ByLines (Whole cause.Squeezes)) (spec.Tr s)
-goes_by_test s true k = tr_by_lines s (k refl)
-goes_by_test s false k = tt
-
-goes_by_set : (s : TrSpec) (set : Option (List Bool)) → s.squeezed ≡ set
-    → GoesIn (squeezing_manner s set) (spec.Tr s)
-goes_by_set s None e = tr_by_bytes s e
-goes_by_set s (Some set) e =
-    goes_by_test s (not (deletes_newline s) && not (in_set (Some set) (newline_becomes s)))
-    (apart_from s set e)
-
--- tr goes in its manner
-pub tr_in_its_manner : (s : TrSpec) → GoesIn (tr_manner s) (spec.Tr s)
-tr_in_its_manner s = goes_by_set s s.squeezed refl
-
--- ---- whole lines
-
-other_by_test : (s : TrSpec) (b : Bool) → (b ≡ true → KeepsApart s)
-    → GoesOn (cond b ByLines (Whole cause.Squeezes))
-    → in_set s.squeezed (newline_becomes s) ≡ false
-other_by_test s true k g = (k refl).is_other
-other_by_test s false k g = absurd g
-
-other_by_set : (s : TrSpec) (set : Option (List Bool)) → s.squeezed ≡ set
-    → GoesOn (squeezing_manner s set) → in_set s.squeezed (newline_becomes s) ≡ false
-other_by_set s None e g = ap (λ (o : Option (List Bool)). in_set o (newline_becomes s)) e
-other_by_set s (Some set) e g =
-    other_by_test s (not (deletes_newline s) && not (in_set (Some set) (newline_becomes s)))
-    (apart_from s set e) g
-
-whole_lines_stay : (s : TrSpec) → KeepsApart s → newline_becomes s ≡ newline → (front : List ℕ)
-    → IsWholeLines (made_of (spec.Tr s) (front ++ newline ∷ []))
-whole_lines_stay s k same front =
-    let before = translated s front in
-    inr (
-      squeezed s.squeezed None before,
-      tr_plain s (front ++ newline ∷ [])
-          ∙ (ap (squeezed s.squeezed None) (translated_lines s front k.stays_in)
-          ∙ (squeezed-append s.squeezed None before (newline_becomes s ∷ [])
-          ∙ (ap (λ (z : List ℕ). squeezed s.squeezed None before ++ z)
-          (other_stays s.squeezed (last_of None before) (newline_becomes s) k.is_other)
-          ∙ ap (λ (c : ℕ). squeezed s.squeezed None before ++ c ∷ []) same))),
-    )
-
--- tr that goes on and keeps newlines makes whole lines of whole lines
-pub tr_keeps_lines : (s : TrSpec) → GoesOn (tr_manner s) → keeps_newlines (spec.Tr s) ≡ true
-    → KeepsLines (spec.Tr s)
-tr_keeps_lines s g keeps x w =
-    let both = and_parts (not (deletes_newline s)) (eqb (newline_becomes s) newline) keeps in
-    let k : KeepsApart s = record {
-      stays_in = not-true (deletes_newline s) both.0;
-      is_other =
-          other_by_set s s.squeezed refl g;
-    } in
-    elim w [
-      | inl none ↦ inl (ap (made_of (spec.Tr s)) none)
-      | inr v ↦ subst (λ (z : List ℕ). IsWholeLines (made_of (spec.Tr s) z)) (sym v.1)
-          (whole_lines_stay s k (eqb-true (newline_becomes s) newline both.1) v.0)
     ]

@@ -1,6 +1,7 @@
 -- tail gathers if it counts from the end.
 use Rattle.std.proofs.Common.{◌≡◌, ℕ, zero, suc, ◌+◌, ◌-◌, ◌≤◌, List, [], ◌∷◌, ◌++◌, length, drop}
 use Rattle.std.proofs.Common.{refl, ap, ◌∙◌, sym, arith, length-append, inl, inr}
+use Rattle.std.specs.Prelude.{max}
 use Rattle.std.proofs.Math.Seq.{drop-append-add}
 use Rattle.std.proofs.lemmas.Bool.{cases_lt}
 use Rattle.std.proofs.lemmas.List.{append-nil, drop-drop, drop-append-le, length-drop}
@@ -13,10 +14,10 @@ use Rattle.commands.specs.declared.tail_words.Origin.{Origin}
 use Rattle.commands.specs.declared.tail_words.Origin.TheVariants.{Beginning, End}
 use Rattle.commands.specs.declared.tail_words.TailSpec.{TailSpec}
 use Rattle.commands.specs.declared.spec.FilterSpec.TheVariants as spec
-use Rattle.part_laws.specs.Manners.{GathersParts, GoesIn}
-use Rattle.part_laws.specs.Parts.{IsWholeLines}
+use Rattle.part_laws.specs.Manners.{GathersParts, GoesIn, made_of}
+use Rattle.part_laws.specs.Parts.{IsWholeLines, lines_after}
 use Rattle.part_laws.specs.Utilities.{manner_of, tail_manner}
-use Rattle.part_laws.proofs.lemmas.CutLines.{are_lines-drop, GathersBy, GathersLines, gathers_by}
+use Rattle.part_laws.proofs.lemmas.CutLines.{are_lines-drop, GathersLines, gathers_by}
 use Rattle.part_laws.proofs.lemmas.CutLines.{lines_gather}
 
 -- the last n members are the last n of themselves
@@ -100,7 +101,7 @@ whole_drop (suc k) [] w = w
 whole_drop (suc k) (a ∷ x) w = whole_drop k x (whole_shorter a x w)
 
 -- the last lines and the last bytes are gathered
-ends_gather : (counted : Counted) (n : ℕ) → GathersBy (tail_of counted End n)
+ends_gather : (counted : Counted) (n : ℕ) → GathersParts (tail_of counted End n)
 ends_gather Lines n = lines_gather (last_members n) (last_gathers n)
 ends_gather Bytes n =
     record {
@@ -111,17 +112,27 @@ ends_gather Bytes n =
     }
 
 -- tail that counts from the end gathers
-pub tail_gathers : (s : TailSpec) → s.origin ≡ End → GathersParts (spec.Tail s)
+pub tail_gathers : (s : TailSpec) → s.origin ≡ End → GathersParts (made_of (spec.Tail s))
 tail_gathers s h =
-    gathers_by (spec.Tail s) (tail_of s.counted End s.count)
+    gathers_by (made_of (spec.Tail s)) (tail_of s.counted End s.count)
     (λ x. append-nil (tail_of s.counted s.origin s.count x)
     ∙ ap (λ (o : Origin). tail_of s.counted o s.count x) h)
     (ends_gather s.counted s.count)
 
-tail_by : (s : TailSpec) (o : Origin) → s.origin ≡ o → GoesIn (tail_manner o) (spec.Tail s)
-tail_by s Beginning e = tt
-tail_by s End e = tail_gathers s e
+-- tail that counts lines from the beginning skips the lines before
+tail_skips : (s : TailSpec) → s.origin ≡ Beginning → s.counted ≡ Lines
+    → (x : List ℕ) → made_of (spec.Tail s) x ≡ lines_after (max s.count 1 - 1) x
+tail_skips s h l x =
+    append-nil (tail_of s.counted s.origin s.count x)
+    ∙ (ap (λ (o : Origin). tail_of s.counted o s.count x) h
+    ∙ ap (λ (c : Counted). tail_of c Beginning s.count x) l)
+
+tail_by : (s : TailSpec) (o : Origin) (c : Counted) → s.origin ≡ o → s.counted ≡ c
+    → GoesIn (tail_manner o c) (spec.Tail s)
+tail_by s End c e l = tail_gathers s e
+tail_by s Beginning Lines e l = (max s.count 1 - 1, tail_skips s e l)
+tail_by s Beginning Bytes e l = tt
 
 -- tail goes in its manner
 pub tail_goes : (s : TailSpec) → GoesIn (manner_of (spec.Tail s)) (spec.Tail s)
-tail_goes s = tail_by s s.origin refl
+tail_goes s = tail_by s s.origin s.counted refl refl

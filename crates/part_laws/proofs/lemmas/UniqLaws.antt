@@ -16,20 +16,20 @@ use Rattle.commands.specs.declared.uniq_words.RunsShown.TheVariants.{Every, Coun
 use Rattle.commands.specs.declared.uniq_words.RunsShown.TheVariants.{Single}
 use Rattle.commands.specs.declared.uniq_words.UniqSpec.{UniqSpec}
 use Rattle.commands.specs.declared.spec.FilterSpec.TheVariants as spec
-use Rattle.part_laws.specs.Manners.{GathersParts, GoesIn}
+use Rattle.part_laws.specs.Manners.{GathersParts, GoesIn, made_of}
 use Rattle.part_laws.specs.Parts.{IsWholeLines}
 use Rattle.part_laws.specs.Utilities.{manner_of, uniq_manner}
-use Rattle.part_laws.proofs.lemmas.CutLines.{IsOther, GathersBy, gathers_by, lines_apart}
+use Rattle.part_laws.proofs.lemmas.CutLines.{IsOther, gathers_by, lines_apart}
 use Rattle.part_laws.proofs.lemmas.CutLines.{whole_joined}
 use Rattle.machine.proofs.LinesLaws.{lines-whole}
 
 -- a line before the first lines of runs: it takes the place of the first one if the keys are equal
-abbrev pushed : (List ℕ → List ℕ) → List ℕ → List (List ℕ) → List (List ℕ)
+abbrev pub pushed : (List ℕ → List ℕ) → List ℕ → List (List ℕ) → List (List ℕ)
 pushed by l [] = l ∷ []
 pushed by l (m ∷ ms) = cond (bytes_eq (by l) (by m)) (l ∷ ms) (l ∷ m ∷ ms)
 
 -- the first lines of runs of lines, before these first lines
-abbrev firsts : (List ℕ → List ℕ) → List (List ℕ) → List (List ℕ) → List (List ℕ)
+abbrev pub firsts : (List ℕ → List ℕ) → List (List ℕ) → List (List ℕ) → List (List ℕ)
 firsts by [] ends = ends
 firsts by (l ∷ ls) ends = pushed by l (firsts by ls ends)
 
@@ -37,7 +37,7 @@ firsts by (l ∷ ls) ends = pushed by l (firsts by ls ends)
 same_true : (x y : List ℕ) → x ≡ y → bytes_eq x y ≡ true
 same_true x y e = (bytes_eq-Decides x y).1 e
 
-same_is : (x y : List ℕ) → bytes_eq x y ≡ true → x ≡ y
+pub same_is : (x y : List ℕ) → bytes_eq x y ≡ true → x ≡ y
 same_is x y e = (bytes_eq-Decides x y).0 e
 
 -- a line takes the place of the first one if their keys are equal
@@ -75,13 +75,13 @@ firsts_pushed by l [] ends = refl
 firsts_pushed by l (m ∷ ms) ends = firsts_by (bytes_eq (by l) (by m)) by l m ms ends refl
 
 -- the first lines of two lists
-firsts_append : (by : List ℕ → List ℕ) (ls ms ends : List (List ℕ))
+pub firsts_append : (by : List ℕ → List ℕ) (ls ms ends : List (List ℕ))
     → firsts by (ls ++ ms) ends ≡ firsts by ls (firsts by ms ends)
 firsts_append by [] ms ends = refl
 firsts_append by (l ∷ ls) ms ends = ap (pushed by l) (firsts_append by ls ms ends)
 
 -- first lines have the same first lines
-firsts_again : (by : List ℕ → List ℕ) (ls ends : List (List ℕ))
+pub firsts_again : (by : List ℕ → List ℕ) (ls ends : List (List ℕ))
     → firsts by (firsts by ls []) ends ≡ firsts by ls ends
 firsts_again by [] ends = refl
 firsts_again by (l ∷ ls) ends = firsts_pushed by l (firsts by ls []) ends
@@ -118,7 +118,7 @@ runs_firsts by [] = refl
 runs_firsts by (l ∷ ls) = onto_firsts by l (runs by ls) ∙ ap (pushed by l) (runs_firsts by ls)
 
 -- contents, each with a newline after it
-abbrev ended : List (List ℕ) → List ℕ
+abbrev pub ended : List (List ℕ) → List ℕ
 ended [] = []
 ended (l ∷ ls) = (l ++ newline ∷ []) ++ ended ls
 
@@ -133,7 +133,7 @@ text_is : (by : List ℕ → List ℕ) (ls : List (List ℕ))
 text_is by ls = text_of (runs by ls) ∙ ap ended (runs_firsts by ls)
 
 -- ended contents are whole lines
-ended_whole : (ls : List (List ℕ)) → IsWholeLines (ended ls)
+pub ended_whole : (ls : List (List ℕ)) → IsWholeLines (ended ls)
 ended_whole [] = inl refl
 ended_whole (l ∷ ls) = whole_joined (l ++ newline ∷ []) (ended ls) (inr (l, refl)) (ended_whole ls)
 
@@ -144,7 +144,7 @@ content_whole (x ∷ []) = refl
 content_whole (x ∷ y ∷ ys) = ap (λ (zs : List ℕ). x ∷ zs) (content_whole (y ∷ ys))
 
 -- contents that are ended have these contents
-contents_ended : (ls : List (List ℕ)) (ys : List ℕ) → All HasNoNewline ls
+pub contents_ended : (ls : List (List ℕ)) (ys : List ℕ) → All HasNoNewline ls
     → contents_of (ended ls ++ ys) ≡ ls ++ contents_of ys
 contents_ended [] ys h = refl
 contents_ended (l ∷ ls) ys h =
@@ -154,7 +154,7 @@ contents_ended (l ∷ ls) ys h =
     ∙ (ap (λ (m : List ℕ). m ∷ contents_of (ended ls ++ ys)) (content_whole l)
     ∙ ap (λ (ms : List (List ℕ)). l ∷ ms) (contents_ended ls ys (All-tail HasNoNewline l ls h))))
 
-contents_again : (ls : List (List ℕ)) → All HasNoNewline ls → contents_of (ended ls) ≡ ls
+pub contents_again : (ls : List (List ℕ)) → All HasNoNewline ls → contents_of (ended ls) ≡ ls
 contents_again ls h = ap contents_of (sym (append-nil (ended ls)))
     ∙ (contents_ended ls [] h ∙ append-nil ls)
 
@@ -191,11 +191,11 @@ clean_lines [] = All-nil HasCleanContent
 clean_lines (x ∷ xs) = clean_by (eqb x newline) x (lines xs) refl (clean_lines xs)
 
 -- the contents of lines have no newline
-contents_clean : (x : List ℕ) → All HasNoNewline (contents_of x)
+pub contents_clean : (x : List ℕ) → All HasNoNewline (contents_of x)
 contents_clean x = All-map HasNoNewline content (lines x) (clean_lines x)
 
 -- the contents of whole lines and of what follows them
-contents_apart : (x y : List ℕ) → IsWholeLines x
+pub contents_apart : (x y : List ℕ) → IsWholeLines x
     → contents_of (x ++ y) ≡ contents_of x ++ contents_of y
 contents_apart x y w = ap (map content) (lines_apart x y w) ∙ map-append content (lines x) (lines y)
 
@@ -210,21 +210,21 @@ push_all P by l [] p h = All-cons P l [] p h
 push_all P by l (m ∷ ms) p h = push_by (bytes_eq (by l) (by m)) P l m ms p h
 
 -- what holds of lines holds of the first ones of their runs
-firsts_all : (P : List ℕ → Type 0) (by : List ℕ → List ℕ) (ls : List (List ℕ)) → All P ls
+pub firsts_all : (P : List ℕ → Type 0) (by : List ℕ → List ℕ) (ls : List (List ℕ)) → All P ls
     → All P (firsts by ls [])
 firsts_all P by [] h = h
 firsts_all P by (l ∷ ls) h = push_all P by l (firsts by ls []) (All-head P l ls h)
     (firsts_all P by ls (All-tail P l ls h))
 
 -- the first ones of the runs of a stream's lines, each ended
-abbrev shown_once : (List ℕ → List ℕ) → List ℕ → List ℕ
+abbrev pub shown_once : (List ℕ → List ℕ) → List ℕ → List ℕ
 shown_once by x = ended (firsts by (contents_of x) [])
 
 once_clean : (by : List ℕ → List ℕ) (x : List ℕ) → All HasNoNewline (firsts by (contents_of x) [])
 once_clean by x = firsts_all HasNoNewline by (contents_of x) (contents_clean x)
 
 -- the first ones of runs are gathered
-once_gathers : (by : List ℕ → List ℕ) → GathersBy (shown_once by)
+once_gathers : (by : List ℕ → List ℕ) → GathersParts (shown_once by)
 once_gathers by =
     record {
       nothing = refl;
@@ -244,16 +244,20 @@ once_gathers by =
       keeps = λ x w. ended_whole (firsts by (contents_of x) []);
     }
 
--- uniq that shows every run gathers
-pub uniq_gathers : (s : UniqSpec) → s.shown ≡ Every → GathersParts (spec.Uniq s)
-uniq_gathers s h =
+-- what uniq that shows every run writes
+pub uniq_is : (s : UniqSpec) → s.shown ≡ Every → (x : List ℕ)
+    → made_of (spec.Uniq s) x ≡ shown_once (key s.skipped_fields s.skipped_bytes) x
+uniq_is s h x =
     let by = key s.skipped_fields s.skipped_bytes in
-    gathers_by (spec.Uniq s) (shown_once by)
-    (λ x.
     append-nil (uniq_text by s.shown (contents_of x))
     ∙ (ap (λ (shown : RunsShown). uniq_text by shown (contents_of x)) h
-    ∙ text_is by (contents_of x)))
-    (once_gathers by)
+    ∙ text_is by (contents_of x))
+
+-- uniq that shows every run gathers
+pub uniq_gathers : (s : UniqSpec) → s.shown ≡ Every → GathersParts (made_of (spec.Uniq s))
+uniq_gathers s h =
+    let by = key s.skipped_fields s.skipped_bytes in
+    gathers_by (made_of (spec.Uniq s)) (shown_once by) (uniq_is s h) (once_gathers by)
 
 uniq_by : (s : UniqSpec) (shown : RunsShown) → s.shown ≡ shown
     → GoesIn (uniq_manner shown) (spec.Uniq s)
