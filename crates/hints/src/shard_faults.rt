@@ -36,13 +36,14 @@ fn add_whole(script: &Script, cause: WholeCause, hint: &mut Hint<'_>) -> io::Res
 // Why a command needs its whole input.
 fn reason(cause: WholeCause) -> &'static str {
     match cause {
-        WholeCause::Counts => "wc counts over the whole input",
+        WholeCause::Counts => "wc counts the bytes of the whole input",
+        WholeCause::NamesInput => "wc writes the name of its input: read that with < instead",
         WholeCause::JoinsLines => "paste joins lines, and a part may end between them",
         WholeCause::FromStart => "tail counts from the beginning of the whole input",
         WholeCause::RunLengths =>
             "a run of equal lines may go from one part to the next, and uniq needs its length",
         WholeCause::Squeezes =>
-            "tr squeezes newlines, or deletes them and squeezes bytes, and a run may go from one part to the next",
+            "tr deletes newlines and squeezes bytes, and a run may go from one part to the next",
         WholeCause::Headers => "head writes a header for each input",
     }
 }

@@ -1,5 +1,7 @@
+pub mod AdditionLaws
 pub mod ChainLaws
 pub mod ChainLists
 pub mod ChainParts
-pub mod ShardLaws
+pub mod PlaceLaws
 pub mod SameLaws
+pub mod ShardLaws

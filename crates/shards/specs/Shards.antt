@@ -14,7 +14,7 @@ use Rattle.run_types.specs.declared.names.InName.TheVariants as input
 use Rattle.run_types.specs.declared.names.OutName.{OutName}
 use Rattle.run_types.specs.declared.names.OutName.TheVariants as output
 use Rattle.shards.specs.Chains.{IsChain, output_for, status_for}
-use Rattle.part_laws.specs.Divisions.{combined, division, made_by, mapped, needs_whole}
+use Rattle.part_laws.specs.Divisions.{halves, IsLongest, made_by, needs_whole}
 use Rattle.part_laws.specs.Parts.{AreCutAtLines}
 use Rattle.shards.specs.declared.fault.ShardsFault.{ShardsFault}
 use Rattle.shards.specs.declared.fault.ShardsFault.TheVariants as fault
@@ -39,19 +39,17 @@ pub record HasPlan (text : List ℕ) (plan : Planned) : Type 0 where
 abbrev pub LeadsFromTo : Planned → InName → OutName → Type 0
 LeadsFromTo plan from to = (filters : List FilterSpec) × IsChain plan from filters to
 
--- The first plan does as much as may be done on each part: it writes what the first of these filters
--- write, up to the first one that needs the whole input, or up to and including the first one that
--- gathers. The second one writes what the others write, after the one that gathers once more.
+-- Both plans are the halves of these filters: the first one writes what those write that run on each
+-- part, as many as may, and the second one what the others write. Something runs on each part.
 pub record DividesFilters (filters : List FilterSpec) (each joined : Planned) : Type 0 where
-  pub first : (x : List ℕ) → output_for each x
-      ≡ made_by (mapped (division true filters) filters) x
-  pub later : (x : List ℕ) → output_for joined x
-      ≡ made_by (combined (division true filters) filters) x
+  pub first : (x : List ℕ) → output_for each x ≡ made_by (halves true filters).each x
+  pub later : (x : List ℕ) → output_for joined x ≡ made_by (halves true filters).joined x
+  pub longest : IsLongest (halves true filters).each (halves true filters).joined
   pub some : needs_whole filters ≡ None
 
 -- These two texts are the shards of a plan: they are scripts that give the same bytes. Both read
 -- the standard input. The first writes the standard output, and the second writes to the plan's
--- output. The first does as much as may be done on each part.
+-- output. Together they are the halves of its filters.
 pub record AreShards (plan : Planned) (map_text combine_text : List ℕ) : Type 0 where
   pub from : InName
   pub to : OutName
@@ -75,8 +73,8 @@ pub record IsOnePipeline (script : Script) (plan : Planned) (filters : List Filt
     pub to : OutName
     pub chain : IsChain plan from filters to
 
--- Why a script has no shards: it is not one pipeline from one input to one output; or its first
--- command needs the whole input. Otherwise its commands could not be written as scripts
+-- Why a script has no shards: it is not one pipeline from one input to one output; or nothing of it
+-- runs on a part, since its first command needs the whole input. Otherwise its commands could not be written as scripts
 -- again, or memory was refused.
 abbrev pub HasNoShards : Script → Planned → ShardsFault → Type 0
 HasNoShards script plan fault.NotOnePipeline = (filters : List FilterSpec)

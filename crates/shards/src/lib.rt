@@ -5,6 +5,7 @@ pub use chain::{Chain, chain_of};
 pub use fault::ShardsFault;
 pub use shards::{Shards, shards_of};
 
+mod additions;
 mod chain;
 mod division;
 mod fault;

@@ -1,24 +1,23 @@
 ghost use Rattle.std.specs.Prelude.{IfOk, IfErr, OnOk};
-ghost use Rattle.shards.specs.Chains.{filters_of};
 ghost use Rattle.shards.specs.Shards.{HasPlan};
-ghost use Rattle.shards.specs.inner.Written.{IsUnwritten, Writes};
+ghost use Rattle.shards.specs.inner.Written.{filters_in, IsUnwritten, Writes};
 
 use crate::chain::chain_of;
 use crate::fault::ShardsFault;
-use crate::same::{same_output, surely_make_the_same};
+use crate::same::{Half, same_output, surely_make_the_same};
 use pipeline_text::{TextFaultKind, read_script};
-use planner::{Node, Plan, PlanFault, make_plan};
+use planner::{Plan, PlanFault, make_plan};
 use run_types::{InName, OutName};
 use std::alloc::Global;
 
-/// Checks that a text is a script from the standard input to this output whose commands surely write what these stages write.
+/// Checks that a text is a script from the standard input to this output whose commands surely write what those of a half write.
 pub(crate) fn check_written(
     alloc: Global,
     text: &[u8],
-    stages: &[Node],
+    half: Half<'_>,
     to: &OutName,
 ) -> Result<(), ShardsFault>
-    ensures written { OnOk result (Writes text.now (filters_of stages.now) to.now) }
+    ensures written { OnOk result (Writes text.now (filters_in half.entry.first.now half.entry.second.now half.entry.third.now) to.now) }
     ensures cause { IfErr result IsUnwritten }
 {
     let plan = plan_of(alloc, text)?;
@@ -26,7 +25,7 @@ pub(crate) fn check_written(
         return Err(ShardsFault::NotWritten);
     };
     let is_from_standard = matches!(chain.from, InName::Standard);
-    if is_from_standard && same_output(chain.to, to) && surely_make_the_same(chain.stages, stages) {
+    if is_from_standard && same_output(chain.to, to) && surely_make_the_same(chain.stages, half) {
         Ok(())
     } else {
         Err(ShardsFault::NotWritten)

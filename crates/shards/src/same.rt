@@ -1,7 +1,8 @@
-ghost use Rattle.std.specs.Prelude.{◌≡◌, ◌<◌, ℕ, List, [], ◌∷◌, length, IsTrue};
+ghost use Rattle.std.specs.Prelude.{◌≡◌, ◌<◌, ℕ, List, [], ◌∷◌, length, IfSome, IsTrue};
 ghost use Rattle.part_laws.specs.Divisions.{made_by};
 ghost use Rattle.part_laws.specs.Manners.{made_of};
 ghost use Rattle.shards.specs.Chains.{filters_of};
+ghost use Rattle.shards.specs.inner.Written.{filters_in};
 
 use commands::{
     CutSpec, FilterSpec, FoldForm, HeadSpec, PasteSpec, Range, TailSpec, UniqSpec, WcSpec,
@@ -10,17 +11,52 @@ use planner::Node;
 use run_types::OutName;
 use tr_words::TrSpec;
 
-/// Whether these stages, one after another, surely write the same of every input. A cat after all others makes no difference.
-pub(crate) fn surely_make_the_same(stages: &[Node], others: &[Node]) -> bool
+/// Half of a pipeline, as three rows of stages, one row after another.
+#[derive(Clone, Copy)]
+pub(crate) struct Half<'a> {
+    pub(crate) first: &'a [Node],
+    pub(crate) second: &'a [Node],
+    pub(crate) third: &'a [Node],
+}
+
+/// Whether these stages, one after another, surely write what those of a half write of every input. A cat after all others makes no difference.
+pub(crate) fn surely_make_the_same(stages: &[Node], half: Half<'_>) -> bool
     ensures { IsTrue result → (x : List ℕ)
-        → made_by (filters_of stages.now) x ≡ made_by (filters_of others.now) x }
+        → made_by (filters_of stages.now) x ≡ made_by (filters_in half.entry.first.now half.entry.second.now half.entry.third.now) x }
 {
-    let [stage, stages @ ..] = stages else {
-        return others.is_empty();
+    let Some(later) = after_alike(stages, half.first) else {
+        return false;
     };
-    match others {
-        [] => is_copying(stage) && surely_make_the_same(stages, others),
-        [other, others @ ..] => are_alike(stage, other) && surely_make_the_same(stages, others),
+    let Some(last) = after_alike(later, half.second) else {
+        return false;
+    };
+    match after_alike(last, half.third) {
+        Some(rest) => are_copying(rest),
+        None => false,
+    }
+}
+
+// The stages after as many that surely write the same as others, if the first ones do.
+fn after_alike<'a>(stages: &'a [Node], others: &[Node]) -> Option<&'a [Node]>
+    ensures { IfSome result (λ rest. (x : List ℕ)
+        → made_by (filters_of stages.now) x ≡ made_by (filters_of rest.now) (made_by (filters_of others.now) x)) }
+{
+    let [other, others @ ..] = others else {
+        return Some(stages);
+    };
+    match stages {
+        [stage, stages @ ..] if are_alike(stage, other) => after_alike(stages, others),
+        _ => None,
+    }
+}
+
+// Whether these stages surely write their input as it is.
+fn are_copying(stages: &[Node]) -> bool
+    ensures { IsTrue result → (x : List ℕ) → made_by (filters_of stages.now) x ≡ x }
+{
+    match stages {
+        [] => true,
+        [stage, stages @ ..] => is_copying(stage) && are_copying(stages),
     }
 }
 

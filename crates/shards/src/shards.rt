@@ -1,15 +1,16 @@
-ghost use Rattle.std.specs.Prelude.{◌≡◌, [], IfOk, IfErr, IsTrue, length, ◌↔◌, take, drop};
-ghost use Rattle.shards.specs.Chains.{filters_of};
+ghost use Rattle.std.specs.Prelude.{◌≡◌, ◌<◌, ◌^◌, [], IfOk, IfErr, IfSome, IsTrue, length, ◌↔◌, take, drop};
 ghost use Rattle.shards.specs.Shards.{AreShards, HasNoShards};
+ghost use Rattle.shards.specs.inner.Places.{after, at, before, each_in, joined_in};
 ghost use Rattle.shards.specs.inner.Written.{IsUnwritten, Writes};
 ghost use Rattle.run_types.specs.declared.names.OutName.TheVariants as outputs;
 
+use crate::additions::added;
 use crate::chain::{Chain, chain_of};
-use crate::division::{division, needs_whole};
+use crate::division::{Division, divide, needs_whole};
 use crate::fault::ShardsFault;
 use crate::reading::check_written;
-use crate::writing::Excerpt;
-use part_laws::Division;
+use crate::same::Half;
+use crate::writing::{Excerpt, Picked};
 use pipeline_text::Script;
 use planner::{Node, Plan};
 use run_types::OutName;
@@ -40,7 +41,7 @@ pub fn shards_of(alloc: Global, script: &Script, plan: &Plan) -> Result<Shards, 
     if let Some(cause) = needs_whole(chain.stages) {
         return Err(ShardsFault::NeedsWholeInput(cause));
     }
-    let division = division(chain.stages, true);
+    let division = divide(chain.stages, true);
     let map = map_of(alloc, script, chain, division)?;
     let combine = combine_of(alloc, script, chain, division)?;
     Ok(Shards { map, combine })
@@ -53,24 +54,34 @@ fn is_one_pipeline(script: &Script) -> bool
     script.fifos.is_empty() && script.pipelines.as_slice().len() == 1
 }
 
-// The script that runs on each part: the first stages, as many as the division says.
+// The script that runs on each part.
 fn map_of(
     alloc: Global,
     script: &Script,
     chain: Chain<'_>,
     division: Division,
 ) -> Result<Vec<u8>, ShardsFault>
+    requires { IfSome division.late (λ place. place < 2 ^ 63) }
     ensures written { IfOk result
-        (λ text. Writes text.items (filters_of (take division.front chain.entry.stages.now)) outputs.Standard) }
+        (λ text. Writes text.items (each_in division chain.entry.stages.now) outputs.Standard) }
     ensures cause { IfErr result IsUnwritten }
 {
-    let stages = first_stages(chain.stages, division.front);
-    let text = excerpt(script, chain).written(alloc, 0, stages.len(), &OutName::Standard)?;
-    check_written(alloc, text.as_slice(), stages, &OutName::Standard)?;
+    let added = added(alloc, division.last)?;
+    let half = each_half(chain.stages, division, added.as_slice());
+    let picked = Picked {
+        first: None,
+        addition: None,
+        from: 0,
+        end: division.front,
+        without: division.late,
+        last: division.last,
+    };
+    let text = excerpt(script, chain).written(alloc, picked, &OutName::Standard)?;
+    check_written(alloc, text.as_slice(), half, &OutName::Standard)?;
     Ok(text)
 }
 
-// The script that runs on the joined outputs for the parts: the other stages, as the division says, or a cat.
+// The script that runs on the joined outputs for the parts.
 fn combine_of(
     alloc: Global,
     script: &Script,
@@ -78,17 +89,68 @@ fn combine_of(
     division: Division,
 ) -> Result<Vec<u8>, ShardsFault>
     ensures written { IfOk result
-        (λ text. Writes text.items (filters_of (drop division.before chain.entry.stages.now)) chain.entry.to.now) }
+        (λ text. Writes text.items (joined_in division chain.entry.stages.now) chain.entry.to.now) }
     ensures cause { IfErr result IsUnwritten }
 {
-    let stages = last_stages(chain.stages, division.before);
-    let before = chain.stages.len().saturating_sub(stages.len());
-    let text = excerpt(script, chain).written(alloc, before, chain.stages.len(), chain.to)?;
-    check_written(alloc, text.as_slice(), stages, chain.to)?;
+    let added = added(alloc, division.first)?;
+    let half = joined_half(chain.stages, division, added.as_slice());
+    let picked = Picked {
+        first: division.late,
+        addition: division.first,
+        from: division.before,
+        end: chain.stages.len(),
+        without: None,
+        last: None,
+    };
+    let text = excerpt(script, chain).written(alloc, picked, chain.to)?;
+    check_written(alloc, text.as_slice(), half, chain.to)?;
     Ok(text)
 }
 
-// The stages that run on each part.
+// What runs on each part: the first stages but the late one, and what is added.
+fn each_half<'a>(stages: &'a [Node], division: Division, added: &'a [Node]) -> Half<'a>
+    requires { IfSome division.late (λ place. place < 2 ^ 63) }
+    ensures first { result.first.now ≡ before division.late (take division.front stages.now) }
+    ensures second { result.second.now ≡ after division.late (take division.front stages.now) }
+    ensures third { result.third.now ≡ added.now }
+{
+    let front = first_stages(stages, division.front);
+    match division.late {
+        Some(place) => Half {
+            first: first_stages(front, place),
+            second: last_stages(front, place + 1),
+            third: added,
+        },
+        None => Half {
+            first: front,
+            second: &[],
+            third: added,
+        },
+    }
+}
+
+// What runs on the joined outputs for the parts: the late stage, what is added, and the other stages.
+fn joined_half<'a>(stages: &'a [Node], division: Division, added: &'a [Node]) -> Half<'a>
+    ensures first { result.first.now ≡ at division.late stages.now }
+    ensures second { result.second.now ≡ added.now }
+    ensures third { result.third.now ≡ drop division.before stages.now }
+{
+    let third = last_stages(stages, division.before);
+    match division.late {
+        Some(place) => Half {
+            first: first_stages(last_stages(stages, place), 1),
+            second: added,
+            third,
+        },
+        None => Half {
+            first: &[],
+            second: added,
+            third,
+        },
+    }
+}
+
+// The first stages, this many.
 fn first_stages(stages: &[Node], count: usize) -> &[Node]
     ensures { result.now ≡ take count stages.now }
 {
@@ -99,7 +161,7 @@ fn first_stages(stages: &[Node], count: usize) -> &[Node]
     }
 }
 
-// The stages that run on the joined outputs for the parts.
+// The stages after this many.
 fn last_stages(stages: &[Node], before: usize) -> &[Node]
     ensures { result.now ≡ drop before stages.now }
 {

@@ -1,6 +1,8 @@
+use crate::additions::add_addition;
 use command_words::Word;
 use commands::FilterSpec;
 use machine::NoMemory;
+use part_laws::Addition;
 use pipeline_text::{Cmd, Script};
 use planner::Node;
 use run_types::{InName, OutName};
@@ -15,32 +17,61 @@ pub(crate) struct Excerpt<'a> {
     pub(crate) from: &'a InName,
 }
 
+/// The commands of half of a pipeline, by their places.
+#[derive(Clone, Copy)]
+pub(crate) struct Picked {
+    /// The command that comes first, if it is none of those between.
+    pub(crate) first: Option<usize>,
+    /// What is added next.
+    pub(crate) addition: Option<Addition>,
+    /// The first place of the commands between.
+    pub(crate) from: usize,
+    /// The place after the last one of them.
+    pub(crate) end: usize,
+    /// The one of them that is left out.
+    pub(crate) without: Option<usize>,
+    /// What is added last.
+    pub(crate) last: Option<Addition>,
+}
+
 impl<'a> Excerpt<'a> {
-    /// The script of the commands from the one after `before` others to before the one after `end` others, from the standard input to this
-    /// output. It is a cat if there are none. No contract speaks of it: what it means is read from it again.
+    /// The script of these commands, from the standard input to this output. It is a cat if there are none. No contract speaks of it: what it
+    /// means is read from it again.
     pub(crate) fn written(
         self,
         alloc: Global,
-        before: usize,
-        end: usize,
+        picked: Picked,
         to: &OutName,
     ) -> Result<Vec<u8>, NoMemory> {
         let mut text = Vec::new(alloc);
-        let mut is_first = true;
-        for (place, command) in commands_of(self.script).iter().enumerate() {
-            if place >= before && place < end {
-                if !is_first {
-                    text.extend_from_slice(b" | ")?;
-                }
-                is_first = false;
-                add_words(&mut text, self.words(place, command))?;
-            }
+        if let Some(place) = picked.first {
+            self.add_commands(&mut text, place, place.saturating_add(1), None)?;
         }
-        if is_first {
+        add_next(&mut text, picked.addition)?;
+        self.add_commands(&mut text, picked.from, picked.end, picked.without)?;
+        add_next(&mut text, picked.last)?;
+        if text.is_empty() {
             text.extend_from_slice(b"cat")?;
         }
         add_output(&mut text, to)?;
         Ok(text)
+    }
+
+    // Adds the commands from this place to before another one, without one of them.
+    fn add_commands(
+        self,
+        text: &mut Vec<u8>,
+        from: usize,
+        end: usize,
+        without: Option<usize>,
+    ) -> Result<(), NoMemory> {
+        for (place, command) in commands_of(self.script).iter().enumerate() {
+            if place >= from && place < end && without != Some(place) {
+                add_bar(text)?;
+                add_words(text, self.words(place, command))?;
+            }
+        }
+        Ok(())
     }
 
     // The words of the command after this many others, without the names of files that it reads or writes.
@@ -81,6 +112,25 @@ fn commands_of(script: &Script) -> &[Cmd] {
         Some(pipeline) => pipeline.commands.as_slice(),
         None => &[],
     }
+}
+
+// Adds an addition, if there is one.
+fn add_next(text: &mut Vec<u8>, addition: Option<Addition>) -> Result<(), NoMemory> {
+    match addition {
+        Some(addition) => {
+            add_bar(text)?;
+            add_addition(text, addition)
+        }
+        None => Ok(()),
+    }
+}
+
+// Adds what comes between two commands, if one is there.
+fn add_bar(text: &mut Vec<u8>) -> Result<(), NoMemory> {
+    if !text.is_empty() {
+        text.extend_from_slice(b" | ")?;
+    }
+    Ok(())
 }
 
 // Adds words with a blank between them.

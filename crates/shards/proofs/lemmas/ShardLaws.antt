@@ -1,10 +1,9 @@
 -- Two texts that write what the divided filters of a chain write are its shards.
-use Rattle.std.proofs.Common.{◌≡◌, ℕ, true, List, [], ◌∷◌, map, take, drop, None, refl, ap, ap₂}
+use Rattle.std.proofs.Common.{◌≡◌, ℕ, true, List, [], ◌∷◌, map, None, refl, ap, ap₂}
 use Rattle.std.proofs.Common.{◌∙◌, sym}
 use Rattle.std.specs.List.{concat}
 use Rattle.commands.specs.declared.spec.FilterSpec.{FilterSpec}
-use Rattle.part_laws.specs.Divisions.{combined, division, made_by, mapped, needs_whole}
-use Rattle.part_laws.specs.declared.manner.Division.{Division}
+use Rattle.part_laws.specs.Divisions.{Halves, halves, made_by, needs_whole}
 use Rattle.part_laws.specs.Laws.{FiltersDivide}
 use Rattle.part_laws.specs.Parts.{AreCutAtLines}
 use Rattle.planner.specs.Planned.{Planned}
@@ -15,9 +14,11 @@ use Rattle.run_types.specs.declared.names.OutName.{OutName}
 use Rattle.run_types.specs.declared.names.OutName.TheVariants as output
 use Rattle.shards.specs.Chains.{IsChain, chained, filters_of, output_for}
 use Rattle.shards.specs.Shards.{AreShards, GivesSameBytes}
+use Rattle.shards.specs.declared.division.Division.{Division}
+use Rattle.shards.specs.inner.Places.{divide, each_in, joined_in}
 use Rattle.shards.specs.inner.Written.{Writes}
 use Rattle.shards.proofs.lemmas.ChainLaws.{output_is, status_is}
-use Rattle.shards.proofs.lemmas.ChainLists.{filters_dropped, filters_taken}
+use Rattle.shards.proofs.lemmas.PlaceLaws.{each_half, joined_half}
 
 -- the same is made of each part
 each_alike : (f g : List ℕ → List ℕ) (parts : List (List ℕ)) → ((x : List ℕ) → f x ≡ g x)
@@ -32,39 +33,31 @@ module _ (plan : Planned) (from : InName) (to : OutName) (stages : List Node)
   abbrev fs : List FilterSpec
   fs = filters_of stages
 
-  abbrev d : Division
-  d = division true fs
+  abbrev h : Halves
+  h = halves true fs
 
-  first_are : filters_of (take d.front stages) ≡ mapped d fs
-  first_are = ap (λ (ns : List Node). filters_of (take d.front ns)) in_turn
-      ∙ filters_taken 0 d.front fs
-
-  last_are : filters_of (drop d.before stages) ≡ combined d fs
-  last_are = ap (λ (ns : List Node). filters_of (drop d.before ns)) in_turn
-      ∙ filters_dropped 0 d.before fs
-
-  module _ (divide : FiltersDivide) (some : needs_whole fs ≡ None) (there : Division)
-      (is : there ≡ d) (map_text combine_text : List ℕ)
-      (m : Writes map_text (filters_of (take there.front stages)) output.Standard)
-      (j : Writes combine_text (filters_of (drop there.before stages)) to) where
-    each_is : (x : List ℕ) → output_for m.plan x ≡ made_by (mapped d fs) x
+  module _ (law : FiltersDivide) (some : needs_whole fs ≡ None) (there : Division)
+      (is : there ≡ divide true fs) (map_text combine_text : List ℕ)
+      (m : Writes map_text (each_in there stages) output.Standard)
+      (j : Writes combine_text (joined_in there stages) to) where
+    each_is : (x : List ℕ) → output_for m.plan x ≡ made_by h.each x
     each_is x = output_is m.plan input.Standard m.own output.Standard m.chain x
-        ∙ (m.same x ∙ (ap (λ (e : Division). made_by (filters_of (take e.front stages)) x) is
-        ∙ ap (λ (l : List FilterSpec). made_by l x) first_are))
+        ∙ (m.same x ∙ ap (λ (l : List FilterSpec). made_by l x)
+        (ap (λ (d : Division). each_in d stages) is ∙ each_half stages in_turn))
 
-    joined_is : (x : List ℕ) → output_for j.plan x ≡ made_by (combined d fs) x
+    joined_is : (x : List ℕ) → output_for j.plan x ≡ made_by h.joined x
     joined_is x = output_is j.plan input.Standard j.own to j.chain x
-        ∙ (j.same x ∙ (ap (λ (e : Division). made_by (filters_of (drop e.before stages)) x) is
-        ∙ ap (λ (l : List FilterSpec). made_by l x) last_are))
+        ∙ (j.same x ∙ ap (λ (l : List FilterSpec). made_by l x)
+        (ap (λ (d : Division). joined_in d stages) is ∙ joined_half stages in_turn))
 
     bytes_are : (parts : List (List ℕ)) → AreCutAtLines parts
         → output_for plan (concat parts) ≡ output_for j.plan
         (concat (map (output_for m.plan) parts))
     bytes_are parts cut =
         output_is plan from fs to c (concat parts)
-        ∙ (divide fs parts cut
-        ∙ (ap (λ (ys : List (List ℕ)). made_by (combined d fs) (concat ys))
-        (sym (each_alike (output_for m.plan) (made_by (mapped d fs)) parts each_is))
+        ∙ (law.same fs parts cut
+        ∙ (ap (λ (ys : List (List ℕ)). made_by h.joined (concat ys))
+        (sym (each_alike (output_for m.plan) (made_by h.each) parts each_is))
         ∙ sym (joined_is (concat (map (output_for m.plan) parts)))))
 
     same_bytes : GivesSameBytes plan m.plan j.plan
@@ -88,5 +81,10 @@ module _ (plan : Planned) (from : InName) (to : OutName) (stages : List Node)
       joined_is = j.has_plan;
       joined_leads = (j.own, j.chain);
       same = same_bytes;
-      divided = record { first = each_is; later = joined_is; some = some };
+      divided = record {
+        first = each_is;
+        later = joined_is;
+        longest = law.longest fs;
+        some = some;
+      };
     }

@@ -1,11 +1,12 @@
 -- Texts of scripts that write what filters write.
-use Rattle.std.specs.Prelude.{◌≡◌, ℕ, List}
+use Rattle.std.specs.Prelude.{◌≡◌, ◌++◌, ℕ, List}
 use Rattle.commands.specs.declared.spec.FilterSpec.{FilterSpec}
 use Rattle.part_laws.specs.Divisions.{made_by}
 use Rattle.planner.specs.Planned.{Planned}
+use Rattle.planner.specs.declared.plan.Node.{Node}
 use Rattle.run_types.specs.declared.names.InName.TheVariants as input
 use Rattle.run_types.specs.declared.names.OutName.{OutName}
-use Rattle.shards.specs.Chains.{IsChain}
+use Rattle.shards.specs.Chains.{filters_of, IsChain}
 use Rattle.shards.specs.Shards.{HasPlan}
 use Rattle.shards.specs.declared.fault.ShardsFault.{ShardsFault}
 use Rattle.shards.specs.declared.fault.ShardsFault.TheVariants as fault
@@ -24,3 +25,7 @@ abbrev pub IsUnwritten : ShardsFault → Type 0
 IsUnwritten fault.NotWritten = Unit {0}
 IsUnwritten fault.NoMemory = Unit {0}
 IsUnwritten _ = ⊥
+
+-- the filters of three rows of nodes
+abbrev pub filters_in : (first second third : List Node) → List FilterSpec
+filters_in first second third = filters_of first ++ (filters_of second ++ filters_of third)

@@ -1,5 +1,5 @@
 use Rattle.std.proofs.Common.{length}
-use Rattle.shards.proofs.division.+division.Given as goal
+use Rattle.shards.proofs.division.+divide.Given as goal
 
-abbrev pub decreases-division : goal.decreases-division
-decreases-division l = length l.stages.now
+abbrev pub decreases-divide : goal.decreases-divide
+decreases-divide l = length l.stages.now

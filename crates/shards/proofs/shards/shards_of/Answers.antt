@@ -8,5 +8,5 @@ returns-clause-same c =
     are_shards c.args.plan.now c.in-Some.chain.from.now c.in-Some.chain.to.now
     c.in-Some.chain.stages.now
     c.in-Some.ensures.chain c.in-Some.ensures.stages pipelines_divide (search rules)
-    c.division-division.result c.division-division.ensures.value c.in_ok-map.map.items
+    c.divide-division.result c.divide-division.ensures.value c.in_ok-map.map.items
     c.in_ok-combine.combine.items c.in_ok-map.ensures.written c.in_ok-combine.ensures.written
