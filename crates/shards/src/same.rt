@@ -4,6 +4,7 @@ ghost use Rattle.part_laws.specs.Manners.{made_of};
 ghost use Rattle.shards.specs.Chains.{filters_of};
 ghost use Rattle.shards.specs.inner.Written.{filters_in};
 
+use command_words::Word;
 use commands::{
     CutSpec, FilterSpec, FoldForm, HeadSpec, PasteSpec, Range, TailSpec, UniqSpec, WcSpec,
 };
@@ -178,15 +179,27 @@ fn same_uniq(spec: &UniqSpec, other: &UniqSpec) -> bool
         && spec.skipped_bytes == other.skipped_bytes
 }
 
-// Whether these count the same, without names.
+// Whether these count the same of inputs with the same names.
 fn same_wc(spec: &WcSpec, other: &WcSpec) -> bool
     ensures { IsTrue result → spec.now ≡ other.now }
 {
     spec.lines == other.lines
         && spec.words == other.words
         && spec.bytes == other.bytes
-        && spec.operands.is_empty()
-        && other.operands.is_empty()
+        && same_words(spec.operands.as_slice(), other.operands.as_slice())
+}
+
+// Whether these are the same words.
+fn same_words(words: &[Word], others: &[Word]) -> bool
+    ensures { IsTrue result → words.now ≡ others.now }
+{
+    match (words, others) {
+        ([], []) => true,
+        ([word, words @ ..], [other, others @ ..]) => {
+            same_text(word.bytes(), other.bytes()) && same_words(words, others)
+        }
+        _ => false,
+    }
 }
 
 // Whether these are the same bytes.
