@@ -123,7 +123,7 @@ COMMANDS = ['cat', 'tee', 'cat -u', 'tr a b', 'tr ab bA', "tr ' ' '\\n'", "tr '\
             "tr -s 'ab' ' '", "tr -s '\\n'", "tr -cs 'ab' '[\\n*]'", 'tr -ds b a', 'cut -c 2-', 'cut -b 1,3', "cut -d ' ' -f 2", 'cut -d a -sf 1-2',
             'cut -d : -f 2-', 'fold -w 3', 'fold -s -w 4', 'fold -b -w 1', 'head -n 3', 'head -n 0', 'head', 'tail -n 2', 'tail -n 0', 'tail',
             'tail -c 5', 'tail -c 0', 'uniq', 'uniq -f 1', 'uniq -s 1', 'uniq -f 1 -s 1', 'tail -n +2', 'uniq -d', 'uniq -u', 'paste - -',
-            "paste -s -d ','", 'wc -l', 'wc -w', 'wc -lw', 'wc', "tr -s '\\n' ' '", "tr -cs 'b' 'a'", 'tail -n +3', 'uniq | head -n 2',
+            "paste -s -d ','", 'wc -l', 'wc -w', 'wc -c', "tr -s '\\n' ' '", "tr -cs 'b' 'a'", 'tail -n +3', 'uniq | head -n 2',
             'uniq -s 1 | head -n 1', 'tail -n +2 | cut -c 2-', "tail -n +2 | wc -l"]
 
 
