@@ -530,6 +530,8 @@ def empty_names(folder):
 NEW = 'its new file is .NAME.plrun, and something else has that name'
 ROWS = {
     'six outputs in one folder': order(SIX, NAMES, 6, 1),
+    'one output': order('cat in > a', 'a', 1, 1),
+    'three outputs in one folder': order('tee a b < in > c', 'abc', 3, 1),
     'two outputs in one folder': order('tee a < in > b', 'ab', 2, 1),
     'outputs in two folders': order('tee deep/x b < in > deep/y', ('b', 'deep/x', 'deep/y'), 3, 2),
     'rights before renames': rights_before_renames,
