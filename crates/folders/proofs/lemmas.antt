@@ -1,0 +1,12 @@
+pub mod Moments
+pub mod Alone
+pub mod Lists
+pub mod Loops
+pub mod Names
+pub mod Renaming
+pub mod Leaving
+pub mod Placing
+pub mod Memory
+pub mod MemoryCalls
+pub mod MemoryReal
+pub mod Fronts

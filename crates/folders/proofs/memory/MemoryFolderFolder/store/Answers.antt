@@ -1,0 +1,52 @@
+use Rattle.std.proofs.Common.{List, ℕ, subst}
+use Rattle.folders.specs.inner.Folder.{FolderShown, Touches, Keeps, IsElsewhere, Looks, Loses, IsStored}
+use Rattle.folders.specs.inner.Memory.{Does}
+use Rattle.folders.specs.declared.call.FolderCall.TheVariants.{Store}
+use Rattle.folders.proofs.lemmas.Memory.{touches_failed, looks_failed, loses_failed, looks_done, loses_done, stored, stored_touches}
+use Rattle.folders.proofs.lemmas.MemoryCalls.{world, either, on_ok, some_from, is_stored}
+use Rattle.folders.proofs.memory.MemoryFolderFolder.store.Goals as goal
+
+pub returns-in-Ok-clause-stored : goal.returns-in-Ok-clause-stored
+returns-in-Ok-clause-stored c =
+    let n = c.args.name.now in
+    let call = Store n in
+    let old = c.args.self.now in
+    let new = c.make.new.self in
+    let does = subst (λ (m : List ℕ). Does (Store m) c.is_file-is_there.result c.make.result old new) c.in-Ok.ensures c.make.ensures.does in
+    on_ok (λ (s s' : FolderShown). IsStored n s') call c.is_file-is_there.result old new (λ there f f'. is_stored n (world old) (some_from _ c.is_file-is_there.result c.is_file-is_there.ensures there) f') c.make.result does
+
+pub returns-in-Ok-clause-keeps : goal.returns-in-Ok-clause-keeps
+returns-in-Ok-clause-keeps c =
+    let n = c.args.name.now in
+    let call = Store n in
+    let old = c.args.self.now in
+    let new = c.make.new.self in
+    let does = subst (λ (m : List ℕ). Does (Store m) c.is_file-is_there.result c.make.result old new) c.in-Ok.ensures c.make.ensures.does in
+    on_ok (λ (s s' : FolderShown). Keeps s s') call c.is_file-is_there.result old new (λ there f f'. stored (world old) f f' n) c.make.result does
+
+pub returns-in-Ok-clause-touches : goal.returns-in-Ok-clause-touches
+returns-in-Ok-clause-touches c =
+    let n = c.args.name.now in
+    let call = Store n in
+    let old = c.args.self.now in
+    let new = c.make.new.self in
+    let does = subst (λ (m : List ℕ). Does (Store m) c.is_file-is_there.result c.make.result old new) c.in-Ok.ensures c.make.ensures.does in
+    either (λ (s s' : FolderShown). Touches n s s') call c.is_file-is_there.result old new (λ f f'. stored_touches (world old) f f' n) (λ f f'. touches_failed (world old) f f' n) c.make.result does
+
+pub returns-in-Ok-clause-looks : goal.returns-in-Ok-clause-looks
+returns-in-Ok-clause-looks c =
+    let n = c.args.name.now in
+    let call = Store n in
+    let old = c.args.self.now in
+    let new = c.make.new.self in
+    let does = subst (λ (m : List ℕ). Does (Store m) c.is_file-is_there.result c.make.result old new) c.in-Ok.ensures c.make.ensures.does in
+    either (λ (s s' : FolderShown). Looks (IsElsewhere n (world old).seen) s s') call c.is_file-is_there.result old new (λ f f'. looks_done (world old) f f' call (IsElsewhere n (world old).seen) (λ v shows m other. shows m)) (λ f f'. looks_failed (world old) f f' (IsElsewhere n (world old).seen)) c.make.result does
+
+pub returns-in-Ok-clause-loses : goal.returns-in-Ok-clause-loses
+returns-in-Ok-clause-loses c =
+    let n = c.args.name.now in
+    let call = Store n in
+    let old = c.args.self.now in
+    let new = c.make.new.self in
+    let does = subst (λ (m : List ℕ). Does (Store m) c.is_file-is_there.result c.make.result old new) c.in-Ok.ensures c.make.ensures.does in
+    either (λ (s s' : FolderShown). Loses s s') call c.is_file-is_there.result old new (λ f f'. loses_done (world old) f f' call) (λ f f'. loses_failed (world old) f f') c.make.result does

@@ -1,0 +1,5 @@
+use Rattle.folders.proofs.lemmas.Loops.{StoredSoFar}
+use Rattle.folders.proofs.steps.store_all.Given as goal
+
+abbrev pub invariant-loop-output : goal.invariant-loop-output
+invariant-loop-output g l = StoredSoFar l.outputs l.output (g.F.Folder.shows l.fn.folder) (g.F.Folder.shows l.folder)

@@ -1,0 +1,98 @@
+ghost use Rattle.std.specs.Prelude.{IsNone, IfErr, OnOk};
+ghost use Rattle.folders.specs.inner.Causes.{HasPlaceCause, HasCauseAndLeft, IsOfRename};
+ghost use Rattle.folders.specs.inner.Folder.{ShowsOnly};
+ghost use Rattle.folders.specs.inner.Outputs.{AllGone, AllLast, AreApart, ArePlaced, IsFront, IsStoppedBy, LosesNothing};
+
+use crate::fault::{NotPlaced, PlaceFault};
+use crate::folder::Folder;
+use crate::output::Output;
+use crate::steps::{leave_all, rename_all, store_all};
+
+/// Puts each new file in its place, the first one first, and stores that. At Err the new files that are not in place are removed.
+pub fn place_or_leave<F: Folder>(folder: &mut F, outputs: &[Output]) -> Result<(), NotPlaced>
+    requires apart { AreApart outputs.now }
+
+    // At Ok each place has its whole new file, and a power loss leaves nothing else there.
+    ensures placed { OnOk result
+        (ArePlaced outputs.now (F.shows folder.old).seen (F.shows folder.new).seen) }
+    ensures stored { OnOk result
+        (AllLast outputs.now (F.shows folder.old).seen (F.shows folder.new)) }
+
+    // At Err the fault says how many are in place. No new file is left, unless one is named.
+    ensures stopped { IfErr result
+        (λ e. IsStoppedBy e.fault outputs.now (F.shows folder.old).seen (F.shows folder.new).seen) }
+    ensures gone { IfErr result
+        (λ e. IsNone e.left → AllGone outputs.now (F.shows folder.new).seen) }
+
+    // A kill at any moment finds a front of the outputs in place, and all else as it was.
+    ensures looks { ShowsOnly (IsFront outputs.now (F.shows folder.old).seen) (F.shows folder.old)
+        (F.shows folder.new) }
+
+    // A power loss at any moment leaves each name as it could be before, or its whole new file.
+    ensures loses { LosesNothing outputs.now (F.shows folder.old) (F.shows folder.new) }
+    ensures cause { HasCauseAndLeft outputs.now result (F.shows folder.old).failures
+        (F.shows folder.new).failures }
+{
+    match place_all(folder, outputs) {
+        Ok(()) => Ok(()),
+        Err(fault) => {
+            let left = leave_all(folder, outputs);
+            Err(NotPlaced { fault, left })
+        }
+    }
+}
+
+/// The same without a store: it promises what a kill leaves, and not what a power loss leaves.
+pub fn rename_or_leave<F: Folder>(folder: &mut F, outputs: &[Output]) -> Result<(), NotPlaced>
+    requires apart { AreApart outputs.now }
+    ensures placed { OnOk result
+        (ArePlaced outputs.now (F.shows folder.old).seen (F.shows folder.new).seen) }
+    ensures stopped { IfErr result
+        (λ e. IsStoppedBy e.fault outputs.now (F.shows folder.old).seen (F.shows folder.new).seen) }
+    ensures gone { IfErr result
+        (λ e. IsNone e.left → AllGone outputs.now (F.shows folder.new).seen) }
+    ensures looks { ShowsOnly (IsFront outputs.now (F.shows folder.old).seen) (F.shows folder.old)
+        (F.shows folder.new) }
+    ensures cause { HasCauseAndLeft outputs.now result (F.shows folder.old).failures
+        (F.shows folder.new).failures }
+    ensures rename { IfErr result (λ e. IsOfRename e.fault) }
+{
+    match rename_all(folder, outputs) {
+        Ok(()) => Ok(()),
+        Err(fault) => {
+            let left = leave_all(folder, outputs);
+            Err(NotPlaced {
+                fault: PlaceFault::NotRenamed(fault),
+                left,
+            })
+        }
+    }
+}
+
+/// Stores the bytes of each new file, puts each in its place, the first one first, and stores the names once. New files that are not in
+/// place stay.
+pub fn place_all<F: Folder>(folder: &mut F, outputs: &[Output]) -> Result<(), PlaceFault>
+    requires apart { AreApart outputs.now }
+    ensures placed { OnOk result
+        (ArePlaced outputs.now (F.shows folder.old).seen (F.shows folder.new).seen) }
+    ensures stored { OnOk result
+        (AllLast outputs.now (F.shows folder.old).seen (F.shows folder.new)) }
+    ensures stopped { IfErr result
+        (λ fault. IsStoppedBy fault outputs.now (F.shows folder.old).seen (F.shows folder.new).seen) }
+    ensures looks { ShowsOnly (IsFront outputs.now (F.shows folder.old).seen) (F.shows folder.old)
+        (F.shows folder.new) }
+    ensures loses { LosesNothing outputs.now (F.shows folder.old) (F.shows folder.new) }
+    ensures cause { HasPlaceCause outputs.now result (F.shows folder.old).failures
+        (F.shows folder.new).failures }
+{
+    if let Err(fault) = store_all(folder, outputs) {
+        return Err(PlaceFault::NotStored(fault));
+    }
+    if let Err(fault) = rename_all(folder, outputs) {
+        return Err(PlaceFault::NotRenamed(fault));
+    }
+    if let Err(why) = folder.store_names() {
+        return Err(PlaceFault::NamesNotStored(why));
+    }
+    Ok(())
+}
