@@ -54,7 +54,7 @@ fn write(folder: &mut MemoryFolder, name: &Name, bytes: &[u8]) -> Result<(), Fai
     Ok(())
 }
 
-// Places the two, with one call refused after so many.
+// Places the two. The call after this many others is refused.
 fn placed(
     alloc: Global,
     folder: &mut MemoryFolder,

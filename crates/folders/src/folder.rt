@@ -53,7 +53,7 @@ pub trait Folder {
         ensures cause { (shows self.new).failures
             ≡ after_call (Stores name.now) result (shows self.old).failures };
 
-    /// Gives a file another name, of which a look finds the old file or the new one at each moment (XSH rename). The old name may be
+    /// Gives a file another name. At each moment a look finds the old file of that name or the new one (XSH rename). The old name may be
     /// there as well for a while (rename(2)). At Err it may have been done all the same, as over NFS (rename(2), BUGS).
     fn rename(&mut self, from: &Name, to: &Name) -> Result<(), CallFault>
         requires { from.now ≢ to.now }

@@ -39,7 +39,7 @@ impl MemoryFolder {
         }
     }
 
-    /// After so many calls one is refused.
+    /// After this many calls one is refused.
     pub fn refuse_after(&mut self, calls: usize)
         ensures calls { self.new.calls ≡ self.old.calls }
         ensures failures { failures_of self.new ≡ failures_of self.old }

@@ -13,7 +13,7 @@ use Rattle.folders.proofs.lemmas.Alone.{alone_none, alone_more}
 use Rattle.folders.proofs.lemmas.Lists.{all_at, all_more, all_map}
 use Rattle.folders.proofs.lemmas.Names.{name_cases}
 
--- the removals of so many new files have been tried
+-- the removals of this many new files have been tried
 pub record LeftSoFar (os : List Output) (i : ℕ) (left : Option OutputFault) (s0 s : FolderShown) : Type 0 where
   pub gone : IsNone left → AllGone (take i os) s.seen
   pub others : LeavesAlone (IsNoNew os) s0 s

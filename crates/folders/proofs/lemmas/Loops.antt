@@ -7,7 +7,7 @@ use Rattle.folders.specs.declared.output.Output.{Output}
 use Rattle.folders.proofs.lemmas.Alone.{keeps_none, keeps_more, stored_kept, alone_none, alone_more}
 use Rattle.folders.proofs.lemmas.Lists.{all_at, all_more, all_map}
 
--- so many of the new files are stored, and nothing else has changed
+-- this many of the new files are stored, and nothing else has changed
 pub record StoredSoFar (os : List Output) (i : ℕ) (s0 s : FolderShown) : Type 0 where
   pub stored : AllStored (take i os) s
   pub keeps : Keeps s0 s

@@ -8,7 +8,7 @@ use Rattle.folders.proofs.lemmas.Lists.{all_at, all_more, any_at}
 use Rattle.folders.proofs.lemmas.Moments.{started, goes_on}
 use Rattle.folders.proofs.lemmas.Names.{name_cases, renamed_is, placed_other, placed_more, own_apart, new_apart, new_before, place_before}
 
--- so many of them are in their places
+-- this many of them are in their places
 pub record RenamedSoFar (os : List Output) (i : ℕ) (s0 s : FolderShown) : Type 0 where
   pub seen : s.seen ≡ placed (take i os) s0.seen
   pub files : AllFiles (take i os) s0.seen

@@ -94,8 +94,8 @@ abbrev pub IsStored : (name : List ℕ) → (f : FolderShown) → Type 0
 IsStored name f =
     (b : List ℕ) × (f.seen name ≡ Some b) × ((c : List ℕ) → f.bytes_of name c → c ≡ b)
 
--- what a name may be after a power loss if its meaning is stored: free, or its file, of which
--- some of the bytes that it may have are left
+-- what a name may be after a power loss if its meaning is stored: free, or its file, with some of
+-- the bytes that it may have
 abbrev pub IsEntry : (f : FolderShown) → (name : List ℕ) → Option (List ℕ) → Type 0
 IsEntry f name c =
     ((f.seen name ≡ None) × (c ≡ None)) ⊎ ((b : List ℕ) × f.bytes_of name b × (c ≡ Some b))
@@ -113,7 +113,7 @@ pub record Renames (from to : List ℕ) (old new : FolderShown) : Type 0 where
   pub bytes : (b : List ℕ) → new.bytes_of to b → old.bytes_of from b
 
 -- After a rename that is not stored a power loss leaves the new name as it was, or as a name of the
--- file, of which some of the bytes that it may have are left. It leaves anything of the old name.
+-- file, with some of the bytes that it may have. It leaves anything of the old name.
 pub record MayRename (from to : List ℕ) (old new : FolderShown) : Type 0 where
   pub to_may : (c : Option (List ℕ)) → new.may_hold to c
       → old.may_hold to c ⊎ ((b : List ℕ) × old.bytes_of from b × (c ≡ Some b))
