@@ -30,10 +30,10 @@ impl Batch {
     }
 }
 
-// At most so many pieces are handed over at once.
+// How many pieces are handed over at once, at most.
 const MOST: usize = 8;
 
-/// Pieces that come one after the other, 8 at most. There is memory for so many from the beginning.
+/// Pieces that come one after the other, 8 at most. There is memory for all 8 from the beginning.
 #[derive(Drop)]
 pub struct FewPieces {
     pieces: Vec<Piece>,

@@ -92,7 +92,7 @@ pub trait Files: Drop {
         ensures no_memory { OnErr result (OpensNothing (shows self.old) (shows self.new)) };
 
     /// Puts an output in place, if it is held back: its file holds all that was written to it from now on. It fails if the system refuses
-    /// that. Then the file is unchanged.
+    /// that. Then it counts as not in place. Files in memory are unchanged then. A name of the system is the old file or the new one (rename(2), BUGS).
     fn put_in_place(&mut self, file: usize) -> Result<(), IoFailed>
         ensures ok { OnOk result (PutsInPlace file (shows self.old) (shows self.new)) }
         ensures failed { OnErr result

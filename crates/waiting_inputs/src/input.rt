@@ -170,7 +170,7 @@ impl Input {
     }
 }
 
-// Requests so many reads, the first of them with this buffer. Returns how many were requested: 0 if the thread takes no requests.
+// Requests this many reads, the first of them with this buffer. Returns how many were requested: 0 if the thread takes no requests.
 fn request<R: Wait>(
     rt: &R,
     requests: &Sender<Option<Buffer>>,

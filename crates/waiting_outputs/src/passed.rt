@@ -33,7 +33,7 @@ impl Passed {
     {}
 }
 
-// Notes that the first bytes of this batch, so many, went through after the others.
+// Notes that the first bytes of this batch, this many, went through after the others.
 pub(crate) fn note_batch(passed: &mut Passed, batch: &Batch, count: usize)
     ensures { passed.new.bytes ≡ passed.old.bytes ++ take count (batch_bytes batch.now) }
 {
@@ -44,7 +44,7 @@ pub(crate) fn note_batch(passed: &mut Passed, batch: &Batch, count: usize)
     }
 }
 
-// Notes that the first bytes of these pieces, so many, went through after the others.
+// Notes that the first bytes of these pieces, this many, went through after the others.
 fn note_pieces(passed: &mut Passed, pieces: &[Piece], count: usize)
     ensures { passed.new.bytes ≡ passed.old.bytes ++ take count (concat pieces.now) }
 {
