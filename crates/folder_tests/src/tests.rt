@@ -4,8 +4,8 @@ ghost use Rattle.std.specs.Prelude.{◌≡◌, IfOk};
 
 use disk::{left_of, seen_of};
 use folders::{
-    Folder, FolderCall, MemoryFolder, Name, NotPlaced, Output, place_or_leave, rename_or_leave,
-    write_new,
+    Access, CallFault, Folder, FolderCall, MemoryFolder, Name, NotPlaced, Output, place_or_leave,
+    place_stored, rename_or_leave, store_all, write_new,
 };
 use std::alloc::Global;
 use std::process::Abort;
@@ -18,6 +18,17 @@ const OLD: &[u8] = b"old";
 const ONE: &[u8] = b"the first";
 
 const TWO: &[u8] = b"and the second";
+
+// How the two take their places.
+#[derive(Clone, Copy)]
+enum Way {
+    // With all stores.
+    Place,
+    // The bytes are stored before.
+    PlaceStored,
+    // With no store.
+    Rename,
+}
 
 fn name(alloc: Global, text: &[u8]) -> Result<Name, Fail>
     ensures { IfOk result (λ name. name ≡ text.now) }
@@ -59,14 +70,20 @@ fn placed(
     alloc: Global,
     folder: &mut MemoryFolder,
     refused: usize,
-    stored: bool,
+    way: Way,
 ) -> Result<Result<(), NotPlaced>, Fail> {
     let outputs = [output(alloc, b".a", b"a")?, output(alloc, b".b", b"b")?];
+    if matches!(way, Way::PlaceStored) && store_all(folder, &outputs).is_err() {
+        return Err("the new files were not stored")?;
+    }
     folder.refuse_after(refused);
-    Ok(if stored {
-        place_or_leave(folder, &outputs)
-    } else {
-        rename_or_leave(folder, &outputs)
+    Ok(match way {
+        Way::Place => place_or_leave(folder, &outputs),
+        Way::PlaceStored => match place_stored(folder, &outputs) {
+            Ok(()) => Ok(()),
+            Err(fault) => Err(NotPlaced { fault, left: None }),
+        },
+        Way::Rename => rename_or_leave(folder, &outputs),
     })
 }
 
@@ -114,18 +131,18 @@ fn play(
     rt: &impl Abort,
     alloc: Global,
     refused: usize,
-    stored: bool,
+    way: Way,
 ) -> Result<(bool, (bool, bool)), Fail> {
     let mut folder = prepared(alloc)?;
     let first = folder.calls().len();
-    let result = placed(alloc, &mut folder, refused, stored)?;
+    let result = placed(alloc, &mut folder, refused, way)?;
     let calls = folder.calls();
     let mut last = (false, false);
     for count in first..=calls.len() {
         let now = looks(alloc, &calls[..count])?;
         assert!(rt; now.0 || !now.1, "the second is in place before the first");
         last = now;
-        if stored {
+        if !matches!(way, Way::Rename) {
             let whole = is_whole(alloc, &calls[..count])?;
             assert!(rt;
                 whole || count < calls.len() || result.is_err(),
@@ -148,7 +165,7 @@ fn each_call_is_refused_in_turn(rt: HostRuntime) -> Result<(), Fail> {
         (5, (true, (true, true))),
     ] {
         assert_eq!(rt;
-            play(&rt, alloc, refused, true)?,
+            play(&rt, alloc, refused, Way::Place)?,
             wanted,
             "call {refused} was refused"
         );
@@ -165,10 +182,41 @@ fn each_rename_is_refused_in_turn(rt: HostRuntime) -> Result<(), Fail> {
         (2, (true, (true, true))),
     ] {
         assert_eq!(rt;
-            play(&rt, alloc, refused, false)?,
+            play(&rt, alloc, refused, Way::Rename)?,
             wanted,
             "call {refused} was refused"
         );
     }
+    Ok(())
+}
+
+#[test]
+fn each_call_after_the_stores_is_refused_in_turn(rt: HostRuntime) -> Result<(), Fail> {
+    let alloc = rt.alloc();
+    for (refused, wanted) in [
+        (0, (false, (false, false))),
+        (1, (false, (true, false))),
+        (2, (false, (true, true))),
+        (3, (true, (true, true))),
+    ] {
+        assert_eq!(rt;
+            play(&rt, alloc, refused, Way::PlaceStored)?,
+            wanted,
+            "call {refused} was refused"
+        );
+    }
+    Ok(())
+}
+
+#[test]
+fn a_taken_name_is_refused_without_a_number(rt: HostRuntime) -> Result<(), Fail> {
+    let alloc = rt.alloc();
+    let mut folder = MemoryFolder::new(alloc);
+    let a = name(alloc, b"a")?;
+    assert_eq!(rt; folder.create(&a, Access::Ordinary), Ok(()));
+    assert_eq!(rt;
+        folder.create(&a, Access::Private),
+        Err(CallFault::Refused(None))
+    );
     Ok(())
 }

@@ -1,1 +1,4 @@
 mod lemmas
+pub mod Alone
+pub mod Lists
+pub mod Moments

@@ -1,6 +1,3 @@
-pub mod Moments
-pub mod Alone
-pub mod Lists
 pub mod Loops
 pub mod Names
 pub mod Renaming

@@ -3,9 +3,9 @@ use thiserror::Error;
 /// Why a call of a folder failed.
 #[derive(Clone, Copy, Debug, PartialEq, Eq, Error)]
 pub enum CallFault {
-    /// The system refused it.
+    /// The system refused it, with the number of its error if it gave one (POSIX.1-2017 XSH errno).
     #[error("refused")]
-    Refused,
+    Refused(Option<i32>),
     /// Memory was refused.
     #[error("NoMemory")]
     NoMemory,

@@ -1,4 +1,4 @@
-ghost use Rattle.std.specs.Prelude.{◌≡◌, ◌+◌, ◌-◌, ◌^◌, [], min, IfOk, Some, is_some};
+ghost use Rattle.std.specs.Prelude.{◌≡◌, ◌+◌, ◌-◌, ◌^◌, [], min, IfOk, Some, is_some, true};
 ghost use Rattle.folders.specs.inner.Calls.{after_call};
 ghost use Rattle.folders.specs.inner.Memory.{call_of, failures_of, shown_by, Does};
 ghost use Rattle.folders.specs.declared.fault.CallFault.TheVariants.{NoMemory};
@@ -6,6 +6,7 @@ ghost use Rattle.folders.specs.declared.call.FolderCall.TheVariants.{Append, Ren
 ghost use Rattle.folders.specs.inner.MemoryMoments.{counts_moments};
 ghost use Rattle.folders.specs.inner.MemoryReal.{LooksMayBeLeft};
 
+use crate::access::Access;
 use crate::call::{FolderCall, is_file};
 use crate::content::Content;
 use crate::fault::CallFault;
@@ -95,7 +96,7 @@ impl MemoryFolder {
     {
         if self.is_out() || !is_possible {
             match self.refused.push(call) {
-                Ok(()) => Err(CallFault::Refused),
+                Ok(()) => Err(CallFault::Refused(None)),
                 Err(_) => Err(self.lack_memory()),
             }
         } else {
@@ -108,11 +109,13 @@ impl MemoryFolder {
 }
 
 impl Folder for MemoryFolder {
+    ghost names_known = { true };
+
     ghost shows = { λ m. shown_by m };
 
-    ghost moments = { λ m. counts_moments m };
+    ghost moments = { λ _ m. counts_moments m };
 
-    fn create(&mut self, name: &Name) -> Result<(), CallFault> {
+    fn create(&mut self, name: &Name, _access: Access) -> Result<(), CallFault> {
         let is_free = !self.is_file(name);
         match name.copied(self.alloc) {
             Ok(name) => self.make(FolderCall::Create(name), is_free),

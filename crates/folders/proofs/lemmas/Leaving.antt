@@ -9,8 +9,8 @@ use Rattle.folders.specs.inner.Outputs.{IsNoNew, AllGone}
 use Rattle.folders.specs.declared.fault.CallFault.{CallFault}
 use Rattle.folders.specs.declared.fault.OutputFault.{OutputFault}
 use Rattle.folders.specs.declared.output.Output.{Output}
-use Rattle.folders.proofs.lemmas.Alone.{alone_none, alone_more}
-use Rattle.folders.proofs.lemmas.Lists.{all_at, all_more, all_map}
+use Rattle.folders.proofs.Alone.{alone_none, alone_more}
+use Rattle.folders.proofs.Lists.{all_at, all_more, all_map}
 use Rattle.folders.proofs.lemmas.Names.{name_cases}
 
 -- the removals of this many new files have been tried

@@ -4,8 +4,8 @@ use Rattle.std.specs.Prelude.{slice_get}
 use Rattle.folders.specs.inner.Folder.{FolderShown, CountsMoments, Touches, Keeps, IsElsewhere, Looks, Loses, IsStored, LeavesAlone}
 use Rattle.folders.specs.inner.Outputs.{IsNoNew, AllStored}
 use Rattle.folders.specs.declared.output.Output.{Output}
-use Rattle.folders.proofs.lemmas.Alone.{keeps_none, keeps_more, stored_kept, alone_none, alone_more}
-use Rattle.folders.proofs.lemmas.Lists.{all_at, all_more, all_map}
+use Rattle.folders.proofs.Alone.{keeps_none, keeps_more, stored_kept, alone_none, alone_more}
+use Rattle.folders.proofs.Lists.{all_at, all_more, all_map}
 
 -- this many of the new files are stored, and nothing else has changed
 pub record StoredSoFar (os : List Output) (i : ℕ) (s0 s : FolderShown) : Type 0 where

@@ -8,7 +8,7 @@ use Rattle.std.proofs.Math.Numerals.{suc-eq-add-one}
 use Rattle.folders.specs.inner.Folder.{View, FolderShown, Renames}
 use Rattle.folders.specs.inner.Outputs.{IsNoNew, IsNoPlace, AreApart, renamed, placed}
 use Rattle.folders.specs.declared.output.Output.{Output}
-use Rattle.folders.proofs.lemmas.Lists.{all_at}
+use Rattle.folders.proofs.Lists.{all_at}
 
 -- ---- two names
 

@@ -9,9 +9,9 @@ use Rattle.folders.specs.inner.Outputs.{IsNoNew, AreApart, ArePlaced, AllFiles, 
 use Rattle.folders.specs.declared.fault.PlaceFault.{PlaceFault}
 use Rattle.folders.specs.declared.fault.PlaceFault.TheVariants.{NotStored, NotRenamed, NamesNotStored}
 use Rattle.folders.specs.declared.output.Output.{Output}
-use Rattle.folders.proofs.lemmas.Alone.{alone_seen}
-use Rattle.folders.proofs.lemmas.Lists.{all_at}
-use Rattle.folders.proofs.lemmas.Moments.{goes_on, goes_further, says_less}
+use Rattle.folders.proofs.Alone.{alone_seen}
+use Rattle.folders.proofs.Lists.{all_at}
+use Rattle.folders.proofs.Moments.{goes_on, goes_further, says_less}
 use Rattle.folders.proofs.lemmas.Names.{placed_other, placed_whole, placed_gone}
 
 -- what holds of the output of each number holds of all
@@ -63,28 +63,28 @@ module _ (os : List Output) (s0 s1 : FolderShown) (alone : LeavesAlone (IsNoNew 
       may = λ n c none now. old_or_whole n c (more.may n c none now);
     }
 
-    module _ (s3 : FolderShown) (shown : s2.seen ≡ placed os s1.seen) (last : Keeps s2 s3) where
-      pub last_shown : s3.seen ≡ placed os s0.seen
-      last_shown = same_view last.seen ∙ shown ∙ ap (placed os) (same_view keeps.seen)
+-- ---- the same without the first stores
 
-      pub last_looks : ShowsOnly (IsFront os s1.seen) s1 s2 → Looks (Shows s2.seen) s2 s3 → ShowsOnly (IsFront os s0.seen) s0 s3
-      last_looks more looks = goes_on (renamed_looks more) looks
-          (λ found same. whole_front os s0.seen found (λ n. same n ∙ ap (λ (v : View). v n) (shown ∙ ap (placed os) (same_view keeps.seen))))
+module _ (os : List Output) (s1 s2 s3 : FolderShown) (shown : s2.seen ≡ placed os s1.seen) (last : Keeps s2 s3) where
+  pub last_shown : s3.seen ≡ placed os s1.seen
+  last_shown = same_view last.seen ∙ shown
 
-      pub last_loses : LosesNothing os s1 s2 → Loses s2 s3 → LosesNothing os s0 s3
-      last_loses more loses = record {
-        power = λ n none. goes_on ((renamed_loses more).power n none) (loses n) (λ c now. (renamed_loses more).may n c none (last.may n c now));
-        may = λ n c none now. (renamed_loses more).may n c none (last.may n c now);
-      }
+  pub last_looks : ShowsOnly (IsFront os s1.seen) s1 s2 → Looks (Shows s2.seen) s2 s3 → ShowsOnly (IsFront os s1.seen) s1 s3
+  last_looks more looks = goes_on more looks (λ found same. whole_front os s1.seen found (λ n. same n ∙ ap (λ (v : View). v n) shown))
 
-      pub all_last : AreApart os → AllFiles os s1.seen → AllKept os s1.seen s2 → NamesAreStored s3 → AllLast os s0.seen s3
-      all_last apart files kept names = all_from (λ o. (c : Option (List ℕ)) → s3.may_hold o.place c → c ≡ s0.seen o.new) os (λ i o at c now.
-          let was : s1.seen o.new ≡ s0.seen o.new = ap (λ (v : View). v o.new) (same_view keeps.seen) in
-          let file = all_at (λ (p : Output). (b : List ℕ) × (s1.seen p.new ≡ Some b)) os i o at files in
-          let here : s3.seen o.place ≡ s0.seen o.new = ap (λ (v : View). v o.place) last_shown ∙ placed_whole os i o s0.seen at apart in ⊎_elim
-          (λ free. absurd (cc (sym free.0 ∙ here ∙ sym was ∙ file.1)))
-          (λ entry. entry.2 ∙ sym (all_at (λ (p : Output). (b : List ℕ) → s2.bytes_of p.place b → s1.seen p.new ≡ Some b) os i o at kept entry.0 (last.bytes o.place entry.0 entry.1)) ∙ was)
-          (names o.place c now))
+  pub last_loses : LosesNothing os s1 s2 → Loses s2 s3 → LosesNothing os s1 s3
+  last_loses more loses = record {
+    power = λ n none. goes_on (more.power n none) (loses n) (λ c now. more.may n c none (last.may n c now));
+    may = λ n c none now. more.may n c none (last.may n c now);
+  }
+
+  pub all_last : AreApart os → AllFiles os s1.seen → AllKept os s1.seen s2 → NamesAreStored s3 → AllLast os s1.seen s3
+  all_last apart files kept names = all_from (λ o. (c : Option (List ℕ)) → s3.may_hold o.place c → c ≡ s1.seen o.new) os (λ i o at c now.
+      let file = all_at (λ (p : Output). (b : List ℕ) × (s1.seen p.new ≡ Some b)) os i o at files in
+      let here : s3.seen o.place ≡ s1.seen o.new = ap (λ (v : View). v o.place) last_shown ∙ placed_whole os i o s1.seen at apart in ⊎_elim
+      (λ free. absurd (cc (sym free.0 ∙ here ∙ file.1)))
+      (λ entry. entry.2 ∙ sym (all_at (λ (p : Output). (b : List ℕ) → s2.bytes_of p.place b → s1.seen p.new ≡ Some b) os i o at kept entry.0 (last.bytes o.place entry.0 entry.1)))
+      (names o.place c now))
 
 -- ---- new files are removed afterwards
 

@@ -4,8 +4,8 @@ use Rattle.std.specs.Prelude.{slice_get}
 use Rattle.folders.specs.inner.Folder.{View, FolderShown, CountsMoments, IsElsewhere, Looks, Loses, IsStored, Renames, MayRename, ShowsOnly}
 use Rattle.folders.specs.inner.Outputs.{IsNoNew, IsNoPlace, AreApart, IsFront, placed, renamed, AllFiles, AllStored, AllKept, IsOldOrWhole, LosesNothing}
 use Rattle.folders.specs.declared.output.Output.{Output}
-use Rattle.folders.proofs.lemmas.Lists.{all_at, all_more, any_at}
-use Rattle.folders.proofs.lemmas.Moments.{started, goes_on}
+use Rattle.folders.proofs.Lists.{all_at, all_more, any_at}
+use Rattle.folders.proofs.Moments.{started, goes_on}
 use Rattle.folders.proofs.lemmas.Names.{name_cases, renamed_is, placed_other, placed_more, own_apart, new_apart, new_before, place_before}
 
 -- this many of them are in their places

@@ -18,9 +18,9 @@ pub record Failures : Type 0 where
   pub refused : List Call
   pub no_memory : ℕ
 
--- the failures after this call failed
+-- The failures after this call failed. The number of the error is not noted.
 abbrev pub after_fault : Call → CallFault → Failures → Failures
-after_fault call Refused f = record f { refused = f.refused ++ call ∷ [] }
+after_fault call (Refused number) f = record f { refused = f.refused ++ call ∷ [] }
 after_fault call NoMemory f = record f { no_memory = min (f.no_memory + 1) (2 ^ 64 - 1) }
 
 -- the failures after this call

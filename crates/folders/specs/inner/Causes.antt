@@ -67,6 +67,12 @@ IsOfRename (NotStored fault) = ⊥
 IsOfRename (NotRenamed fault) = ⊤
 IsOfRename (NamesNotStored why) = ⊥
 
+-- this fault is of a rename, or of the store of the names
+abbrev pub IsOfPlacing : PlaceFault → Type 0
+IsOfPlacing (NotStored fault) = ⊥
+IsOfPlacing (NotRenamed fault) = ⊤
+IsOfPlacing (NamesNotStored why) = ⊤
+
 -- no call failed at Ok, and at Err just the one that is named
 abbrev pub HasWriteCause : (name : List ℕ) → Result ⊤ WriteFault → (old new : Failures) → Type 0
 HasWriteCause name (Ok _) old new = new ≡ old

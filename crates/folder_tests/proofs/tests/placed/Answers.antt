@@ -28,5 +28,8 @@ are_apart o p a b = (
 pub place_or_leave-requires : goal.place_or_leave-requires
 place_or_leave-requires c = record { apart = are_apart c.in_ok-output.field-0 c.in_ok-output-2.field-0 c.in_ok-output.ensures c.in_ok-output-2.ensures }
 
+pub place_stored-requires : goal.place_stored-requires
+place_stored-requires c = record { apart = are_apart c.in_ok-output.field-0 c.in_ok-output-2.field-0 c.in_ok-output.ensures c.in_ok-output-2.ensures }
+
 pub rename_or_leave-requires : goal.rename_or_leave-requires
 rename_or_leave-requires c = record { apart = are_apart c.in_ok-output.field-0 c.in_ok-output-2.field-0 c.in_ok-output.ensures c.in_ok-output-2.ensures }

@@ -8,7 +8,7 @@ use Rattle.folders.proofs.lemmas.MemoryCalls.{world, either, on_ok, some_from, g
 use Rattle.folders.proofs.memory.MemoryFolderFolder.append.Goals as goal
 
 pub returns-in-Ok-clause-grows : goal.returns-in-Ok-clause-grows
-returns-in-Ok-clause-grows c =
+returns-in-Ok-clause-grows c known =
     let n = c.args.name.now in
     let call = Append n c.args.bytes.now in
     let old = c.args.self.now in
@@ -17,7 +17,7 @@ returns-in-Ok-clause-grows c =
     on_ok (λ (s s' : FolderShown). Grows n c.args.bytes.now s s') call c.is_file-is_there.result old new (λ there f f'. grows n c.args.bytes.now (world old) (some_from _ c.is_file-is_there.result c.is_file-is_there.ensures there) f f') c.make.result does
 
 pub returns-in-Ok-clause-touches : goal.returns-in-Ok-clause-touches
-returns-in-Ok-clause-touches c =
+returns-in-Ok-clause-touches c known =
     let n = c.args.name.now in
     let call = Append n c.args.bytes.now in
     let old = c.args.self.now in
@@ -26,7 +26,7 @@ returns-in-Ok-clause-touches c =
     either (λ (s s' : FolderShown). Touches n s s') call c.is_file-is_there.result old new (λ f f'. appended (world old) f f' n c.args.bytes.now) (λ f f'. touches_failed (world old) f f' n) c.make.result does
 
 pub returns-in-Ok-clause-looks : goal.returns-in-Ok-clause-looks
-returns-in-Ok-clause-looks c =
+returns-in-Ok-clause-looks c known =
     let n = c.args.name.now in
     let call = Append n c.args.bytes.now in
     let old = c.args.self.now in
@@ -35,7 +35,7 @@ returns-in-Ok-clause-looks c =
     either (λ (s s' : FolderShown). Looks (IsElsewhere n (world old).seen) s s') call c.is_file-is_there.result old new (λ f f'. looks_done (world old) f f' call (IsElsewhere n (world old).seen) (λ v shows m other. shows m ∙ with_other n m _ (world old).seen other)) (λ f f'. looks_failed (world old) f f' (IsElsewhere n (world old).seen)) c.make.result does
 
 pub returns-in-Ok-clause-loses : goal.returns-in-Ok-clause-loses
-returns-in-Ok-clause-loses c =
+returns-in-Ok-clause-loses c known =
     let n = c.args.name.now in
     let call = Append n c.args.bytes.now in
     let old = c.args.self.now in

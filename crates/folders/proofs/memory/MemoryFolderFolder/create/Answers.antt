@@ -8,7 +8,7 @@ use Rattle.folders.proofs.lemmas.MemoryCalls.{world, either, on_ok, on_err, none
 use Rattle.folders.proofs.memory.MemoryFolderFolder.create.Goals as goal
 
 pub returns-in-Ok-clause-makes : goal.returns-in-Ok-clause-makes
-returns-in-Ok-clause-makes c =
+returns-in-Ok-clause-makes c known =
     let n = c.args.name.now in
     let call = Create n in
     let old = c.args.self.now in
@@ -17,7 +17,7 @@ returns-in-Ok-clause-makes c =
     on_ok (λ (s s' : FolderShown). Makes n s s') call (not c.is_file-is_free.result) old new (λ free f f'. makes n (world old) (none_from _ c.is_file-is_free.result c.is_file-is_free.ensures free) f f') c.make.result does
 
 pub returns-in-Ok-clause-taken : goal.returns-in-Ok-clause-taken
-returns-in-Ok-clause-taken c some =
+returns-in-Ok-clause-taken c known some =
     let n = c.args.name.now in
     let call = Create n in
     let old = c.args.self.now in
@@ -26,7 +26,7 @@ returns-in-Ok-clause-taken c some =
     on_err (λ (s s' : FolderShown). Keeps s s') call (not c.is_file-is_free.result) old new (not_free _ c.is_file-is_free.result c.is_file-is_free.ensures some) (λ f f'. keeps_failed (world old) f f') c.make.result does
 
 pub returns-in-Ok-clause-touches : goal.returns-in-Ok-clause-touches
-returns-in-Ok-clause-touches c =
+returns-in-Ok-clause-touches c known =
     let n = c.args.name.now in
     let call = Create n in
     let old = c.args.self.now in
@@ -35,7 +35,7 @@ returns-in-Ok-clause-touches c =
     either (λ (s s' : FolderShown). Touches n s s') call (not c.is_file-is_free.result) old new (λ f f'. created (world old) f f' n) (λ f f'. touches_failed (world old) f f' n) c.make.result does
 
 pub returns-in-Ok-clause-looks : goal.returns-in-Ok-clause-looks
-returns-in-Ok-clause-looks c =
+returns-in-Ok-clause-looks c known =
     let n = c.args.name.now in
     let call = Create n in
     let old = c.args.self.now in
@@ -44,7 +44,7 @@ returns-in-Ok-clause-looks c =
     either (λ (s s' : FolderShown). Looks (IsElsewhere n (world old).seen) s s') call (not c.is_file-is_free.result) old new (λ f f'. looks_done (world old) f f' call (IsElsewhere n (world old).seen) (λ v shows m other. shows m ∙ with_other n m _ (world old).seen other)) (λ f f'. looks_failed (world old) f f' (IsElsewhere n (world old).seen)) c.make.result does
 
 pub returns-in-Ok-clause-loses : goal.returns-in-Ok-clause-loses
-returns-in-Ok-clause-loses c =
+returns-in-Ok-clause-loses c known =
     let n = c.args.name.now in
     let call = Create n in
     let old = c.args.self.now in

@@ -7,7 +7,7 @@ use Rattle.folders.proofs.lemmas.MemoryCalls.{world, either, on_ok}
 use Rattle.folders.proofs.memory.MemoryFolderFolder.remove.Goals as goal
 
 pub returns-in-Ok-clause-gone : goal.returns-in-Ok-clause-gone
-returns-in-Ok-clause-gone c =
+returns-in-Ok-clause-gone c known =
     let n = c.args.name.now in
     let call = Remove n in
     let old = c.args.self.now in
@@ -16,7 +16,7 @@ returns-in-Ok-clause-gone c =
     on_ok (λ (s s' : FolderShown). s'.seen n ≡ Rattle.std.proofs.Common.None) call true old new (λ there f f'. with_same n _ (world old).seen) c.make.result does
 
 pub returns-in-Ok-clause-touches : goal.returns-in-Ok-clause-touches
-returns-in-Ok-clause-touches c =
+returns-in-Ok-clause-touches c known =
     let n = c.args.name.now in
     let call = Remove n in
     let old = c.args.self.now in
@@ -25,7 +25,7 @@ returns-in-Ok-clause-touches c =
     either (λ (s s' : FolderShown). Touches n s s') call true old new (λ f f'. removed (world old) f f' n) (λ f f'. touches_failed (world old) f f' n) c.make.result does
 
 pub returns-in-Ok-clause-looks : goal.returns-in-Ok-clause-looks
-returns-in-Ok-clause-looks c =
+returns-in-Ok-clause-looks c known =
     let n = c.args.name.now in
     let call = Remove n in
     let old = c.args.self.now in
@@ -34,7 +34,7 @@ returns-in-Ok-clause-looks c =
     either (λ (s s' : FolderShown). Looks (IsElsewhere n (world old).seen) s s') call true old new (λ f f'. looks_done (world old) f f' call (IsElsewhere n (world old).seen) (λ v shows m other. shows m ∙ with_other n m _ (world old).seen other)) (λ f f'. looks_failed (world old) f f' (IsElsewhere n (world old).seen)) c.make.result does
 
 pub returns-in-Ok-clause-loses : goal.returns-in-Ok-clause-loses
-returns-in-Ok-clause-loses c =
+returns-in-Ok-clause-loses c known =
     let n = c.args.name.now in
     let call = Remove n in
     let old = c.args.self.now in

@@ -8,7 +8,7 @@ use Rattle.folders.proofs.lemmas.MemoryCalls.{world, either, either_if, may_rena
 use Rattle.folders.proofs.memory.MemoryFolderFolder.rename.Goals as goal
 
 pub returns-in-Ok-clause-renames : goal.returns-in-Ok-clause-renames
-returns-in-Ok-clause-renames c =
+returns-in-Ok-clause-renames c known =
     let from = c.args.from.now in
     let to = c.args.to.now in
     let call = Rename from to in
@@ -18,7 +18,7 @@ returns-in-Ok-clause-renames c =
     on_ok (λ (s s' : FolderShown). Renames from to s s') call c.is_file-is_there.result old new (λ there f f'. renames from to (world old) c.requires (some_from _ c.is_file-is_there.result c.is_file-is_there.ensures there) f f') c.make.result does
 
 pub returns-in-Ok-clause-may : goal.returns-in-Ok-clause-may
-returns-in-Ok-clause-may c =
+returns-in-Ok-clause-may c known =
     let from = c.args.from.now in
     let to = c.args.to.now in
     let call = Rename from to in
@@ -28,7 +28,7 @@ returns-in-Ok-clause-may c =
     either_if (λ (s s' : FolderShown). MayRename from to s s') call c.is_file-is_there.result old new (λ there f f'. may_rename from to (world old) c.requires (some_from _ c.is_file-is_there.result c.is_file-is_there.ensures there) f f') (λ f f'. may_failed (world old) f f' from to) c.make.result does
 
 pub returns-in-Ok-clause-looks : goal.returns-in-Ok-clause-looks
-returns-in-Ok-clause-looks c =
+returns-in-Ok-clause-looks c known =
     let from = c.args.from.now in
     let to = c.args.to.now in
     let call = Rename from to in
@@ -38,7 +38,7 @@ returns-in-Ok-clause-looks c =
     either (λ (s s' : FolderShown). Looks (IsElsewhere from s'.seen) s s') call c.is_file-is_there.result old new (λ f f'. looks_done (world old) f f' call _ (λ v shows m other. shows m)) (λ f f'. looks_failed (world old) f f' _) c.make.result does
 
 pub returns-in-Ok-clause-loses : goal.returns-in-Ok-clause-loses
-returns-in-Ok-clause-loses c =
+returns-in-Ok-clause-loses c known =
     let from = c.args.from.now in
     let to = c.args.to.now in
     let call = Rename from to in

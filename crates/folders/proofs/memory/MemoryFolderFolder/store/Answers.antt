@@ -7,7 +7,7 @@ use Rattle.folders.proofs.lemmas.MemoryCalls.{world, either, on_ok, some_from, i
 use Rattle.folders.proofs.memory.MemoryFolderFolder.store.Goals as goal
 
 pub returns-in-Ok-clause-stored : goal.returns-in-Ok-clause-stored
-returns-in-Ok-clause-stored c =
+returns-in-Ok-clause-stored c known =
     let n = c.args.name.now in
     let call = Store n in
     let old = c.args.self.now in
@@ -16,7 +16,7 @@ returns-in-Ok-clause-stored c =
     on_ok (λ (s s' : FolderShown). IsStored n s') call c.is_file-is_there.result old new (λ there f f'. is_stored n (world old) (some_from _ c.is_file-is_there.result c.is_file-is_there.ensures there) f') c.make.result does
 
 pub returns-in-Ok-clause-keeps : goal.returns-in-Ok-clause-keeps
-returns-in-Ok-clause-keeps c =
+returns-in-Ok-clause-keeps c known =
     let n = c.args.name.now in
     let call = Store n in
     let old = c.args.self.now in
@@ -25,7 +25,7 @@ returns-in-Ok-clause-keeps c =
     on_ok (λ (s s' : FolderShown). Keeps s s') call c.is_file-is_there.result old new (λ there f f'. stored (world old) f f' n) c.make.result does
 
 pub returns-in-Ok-clause-touches : goal.returns-in-Ok-clause-touches
-returns-in-Ok-clause-touches c =
+returns-in-Ok-clause-touches c known =
     let n = c.args.name.now in
     let call = Store n in
     let old = c.args.self.now in
@@ -34,7 +34,7 @@ returns-in-Ok-clause-touches c =
     either (λ (s s' : FolderShown). Touches n s s') call c.is_file-is_there.result old new (λ f f'. stored_touches (world old) f f' n) (λ f f'. touches_failed (world old) f f' n) c.make.result does
 
 pub returns-in-Ok-clause-looks : goal.returns-in-Ok-clause-looks
-returns-in-Ok-clause-looks c =
+returns-in-Ok-clause-looks c known =
     let n = c.args.name.now in
     let call = Store n in
     let old = c.args.self.now in
@@ -43,7 +43,7 @@ returns-in-Ok-clause-looks c =
     either (λ (s s' : FolderShown). Looks (IsElsewhere n (world old).seen) s s') call c.is_file-is_there.result old new (λ f f'. looks_done (world old) f f' call (IsElsewhere n (world old).seen) (λ v shows m other. shows m)) (λ f f'. looks_failed (world old) f f' (IsElsewhere n (world old).seen)) c.make.result does
 
 pub returns-in-Ok-clause-loses : goal.returns-in-Ok-clause-loses
-returns-in-Ok-clause-loses c =
+returns-in-Ok-clause-loses c known =
     let n = c.args.name.now in
     let call = Store n in
     let old = c.args.self.now in

@@ -1,7 +1,7 @@
 -- Calls that leave names alone.
 use Rattle.std.proofs.Common.{◌≡◌, ◌≢◌, ℕ, List, refl, ◌∙◌}
 use Rattle.folders.specs.inner.Folder.{FolderShown, CountsMoments, Touches, Keeps, IsElsewhere, IsStored, Looks, Loses, LeavesAlone}
-use Rattle.folders.proofs.lemmas.Moments.{started, goes_on, goes_further}
+use Rattle.folders.proofs.Moments.{started, goes_on, goes_further}
 
 pub keeps_none : (s : FolderShown) → Keeps s s
 keeps_none s = record { seen = λ n. refl; may = λ n c now. now; bytes = λ n b now. now }
