@@ -2,6 +2,7 @@ pub mod Holdings
 pub mod FormerLaws
 pub mod Fronts
 pub mod HostLaws
+pub mod HeldReady
 pub mod HostSettles
 pub mod MemoryLaws
 pub mod Numbers

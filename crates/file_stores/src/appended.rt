@@ -1,8 +1,6 @@
 // A file that is appended to, and cut back if the run does not finish.
-use crate::error_number::NOT_PERMITTED;
 use crate::facts::{Facts, Kind};
-use crate::new_file::{is_at, store_all};
-use crate::not_held::{NotHeld, NotMade};
+use held_outputs::{NOT_PERMITTED, NotHeld, NotMade, is_at};
 use std::alloc::Global;
 use std::fs::{self, File, OpenOptions};
 use std::io::{self, ErrorKind};
@@ -71,11 +69,7 @@ impl Appended {
 
     // Stores its bytes, if they are to be stored.
     pub(crate) fn end(&self, stores: bool) -> io::Result<()> {
-        if stores {
-            store_all(&self.file)
-        } else {
-            Ok(())
-        }
+        if stores { self.file.sync_all() } else { Ok(()) }
     }
 
     // Whether it still has a name.

@@ -1,6 +1,6 @@
 use crate::facts::Facts;
 use crate::links::{descriptor_meant, is_link, joined};
-use crate::paths::folder_and_name;
+use held_outputs::folder_and_name;
 use std::alloc::{AllocError, Global};
 use std::io::{self, ErrorKind};
 use std::prelude::Alloc;

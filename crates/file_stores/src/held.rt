@@ -1,8 +1,13 @@
 // Outputs of the host that are held back until a run has finished.
+ghost use Rattle.std.specs.Prelude.{◌≡◌, IsTrue};
+ghost use Rattle.folders.specs.inner.Folder.{LeavesAlone};
+ghost use Rattle.folders.specs.inner.Outputs.{IsNoNew};
+
 use crate::appended::Appended;
-use crate::error_number::{ErrorNumber, NO_ENTRY};
+use crate::error_number::ErrorNumber;
 use crate::facts::Facts;
-use crate::new_file::{NewFile, store_all};
+use folders::PlaceFault;
+use held_outputs::{Disk, Holding, NO_ENTRY, fault_of};
 use std::fs::File;
 use std::rt;
 
@@ -13,15 +18,13 @@ pub(crate) struct HeldOutput {
     state: HeldState,
     // Whether it is stored.
     stores: bool,
-    // Its folder, if that is to be stored too, and no other output has it.
-    folder: Option<File>,
 }
 
 // What is held back.
 #[derive(Drop)]
 enum Held {
-    // A new file that is to take the place of another.
-    New(NewFile),
+    // The new file of this number, which is to take the place of another.
+    New(usize),
     // What is appended to a file.
     Appended(Appended),
     // Nothing: it was left.
@@ -42,23 +45,22 @@ enum HeldState {
 }
 
 impl HeldOutput {
-    // A new file. It is stored at its end, if so, and this folder of it once all outputs are in place.
-    pub(crate) fn new_file(file: NewFile, stores: bool, folder: Option<File>) -> HeldOutput {
-        HeldOutput::open(Held::New(file), stores, folder)
+    // The new file of this number. It is stored at its end, if so.
+    pub(crate) fn new_file(number: usize, stores: bool) -> HeldOutput {
+        HeldOutput::open(Held::New(number), stores)
     }
 
     // A file that is appended to. It is stored in the same way.
-    pub(crate) fn appended(file: Appended, stores: bool, folder: Option<File>) -> HeldOutput {
-        HeldOutput::open(Held::Appended(file), stores, folder)
+    pub(crate) fn appended(file: Appended, stores: bool) -> HeldOutput {
+        HeldOutput::open(Held::Appended(file), stores)
     }
 
     // Nothing was written to it.
-    fn open(kind: Held, stores: bool, folder: Option<File>) -> HeldOutput {
+    fn open(kind: Held, stores: bool) -> HeldOutput {
         HeldOutput {
             kind,
             state: HeldState::Open,
             stores,
-            folder,
         }
     }
 
@@ -70,66 +72,49 @@ impl HeldOutput {
     }
 
     // What the system says of the file that it is to replace, if there is one.
-    pub(crate) fn replaced(&self) -> Option<Facts> {
+    pub(crate) fn replaced<D: Disk>(&self, holding: &Holding<D>) -> Option<Facts> {
         match &self.kind {
-            Held::New(file) => file.replaced(),
+            Held::New(number) => holding.replaced(*number),
             Held::Appended(_) | Held::Nothing => None,
         }
     }
 
-    // Whether this new file and its own would get in each other's way.
-    pub(crate) fn clashes_with(&self, other: &NewFile) -> bool {
-        match &self.kind {
-            Held::New(file) => file.clashes_with(other),
-            Held::Appended(_) | Held::Nothing => false,
-        }
-    }
-
-    // Whether it is to replace what has this name in this folder.
-    pub(crate) fn is_for(&self, folder: Facts, name: &str) -> bool {
-        match &self.kind {
-            Held::New(file) => file.is_for(folder, name),
-            Held::Appended(_) | Held::Nothing => false,
-        }
-    }
-
-    // Whether it has this folder, to store it.
-    pub(crate) fn has_folder(&self, folder: Facts) -> bool {
-        match &self.folder {
-            Some(own) => Facts::of(own) == Some(folder),
-            None => false,
-        }
-    }
-
-    // Whether it is neither in place nor left.
-    pub(crate) fn is_waiting(&self) -> bool {
-        !matches!(self.kind, Held::Nothing) && self.state != HeldState::Placed
-    }
-
     // Gives it its rights, and stores it if it is to be stored, unless that was done. Returns why that failed.
-    pub(crate) fn end(&mut self) -> Result<(), ErrorNumber> {
+    pub(crate) fn end<D: Disk>(&mut self, holding: &mut Holding<D>) -> Result<(), ErrorNumber>
+        ensures outputs { holding.new.outputs ≡ holding.old.outputs }
+        ensures others { IsTrue D.names_known → LeavesAlone (IsNoNew holding.old.outputs)
+            (D.shows holding.old.disk) (D.shows holding.new.disk) }
+    {
         if self.state != HeldState::Open {
             return Ok(());
         }
-        let ended = match &self.kind {
-            Held::New(file) => file.end(self.stores),
-            Held::Appended(appended) => appended.end(self.stores),
-            Held::Nothing => Ok(()),
-        };
-        ended.map_err(|error| error.raw_os_error())?;
+        match &self.kind {
+            Held::New(number) => holding.end(*number, self.stores)?,
+            Held::Appended(appended) => {
+                appended
+                    .end(self.stores)
+                    .map_err(|error| error.raw_os_error())?;
+            }
+            Held::Nothing => {}
+        }
         self.state = HeldState::Ended;
         Ok(())
     }
 
     // Makes it ready to be put in place, unless it is. It fails if its file lost its name.
-    pub(crate) fn make_ready<R: rt::Files<File = File>>(
+    pub(crate) fn make_ready<R: rt::Files<File = File>, D: Disk>(
         &mut self,
         rt: &R,
-    ) -> Result<(), ErrorNumber> {
-        self.end()?;
+        holding: &mut Holding<D>,
+    ) -> Result<(), ErrorNumber>
+        ensures outputs { holding.new.outputs ≡ holding.old.outputs }
+        ensures others { IsTrue D.names_known → LeavesAlone (IsNoNew holding.old.outputs)
+            (D.shows holding.old.disk) (D.shows holding.new.disk) }
+    {
+        self.end(holding)?;
         if self.state == HeldState::Ended {
             let is_there = match &self.kind {
-                Held::New(file) => file.is_there(rt),
+                Held::New(number) => holding.is_there(rt, *number),
                 Held::Appended(appended) => appended.is_there(),
                 Held::Nothing => true,
             };
@@ -141,38 +126,28 @@ impl HeldOutput {
         Ok(())
     }
 
-    // Puts it in place, once it is ready. Returns why that failed.
-    pub(crate) fn put_in_place<R: rt::Files<File = File>>(
+    // Notes that it is in place, if it was ready and this came of placing this many new files. Returns why it is not.
+    pub(crate) fn note_placed(
         &mut self,
-        rt: &R,
+        placed: Result<(), PlaceFault>,
+        count: usize,
     ) -> Result<(), ErrorNumber> {
         if self.state == HeldState::Ready {
-            if let Held::New(file) = &self.kind {
-                file.put(rt).map_err(|error| error.raw_os_error())?;
+            if let Held::New(number) = &self.kind {
+                fault_of(placed, *number, count)?;
             }
             self.state = HeldState::Placed;
         }
         Ok(())
     }
 
-    // Stores its folder, if that is to be stored and was not. Returns why that failed.
-    pub(crate) fn store_folder(&mut self) -> Result<(), ErrorNumber> {
-        match self.folder.take() {
-            Some(folder) => store_all(&folder).map_err(|error| error.raw_os_error()),
-            None => Ok(()),
-        }
-    }
-
-    // Leaves it, if it is not in place: its file holds what it held.
+    // Leaves it, if it is appended to and not in place: its file holds what it held.
     pub(crate) fn leave<R: rt::Files<File = File>>(&mut self, rt: &R) {
         match (&self.kind, self.state) {
-            (Held::New(file), HeldState::Placed) => file.unlock(),
-            (Held::New(file), _) => file.remove(rt),
             (Held::Appended(appended), HeldState::Placed) => appended.keep(),
             (Held::Appended(appended), _) => appended.leave(rt),
-            (Held::Nothing, _) => {}
+            (Held::New(_) | Held::Nothing, _) => {}
         }
         self.kind = Held::Nothing;
-        self.folder = None;
     }
 }

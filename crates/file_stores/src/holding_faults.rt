@@ -2,10 +2,10 @@
 use crate::appended::Appended;
 use crate::facts::{Facts, Kind};
 use crate::links::{Meant, meant_by};
-use crate::new_file::{
-    NewFile, can_replace, facts_in, folder_to_store, left_at, old_file, path_of_new,
+use held_outputs::{
+    Holding, NotHeld, NotMade, SystemDisk, can_replace, facts_in, folder_to_store, left_at,
+    names_for, old_file, path_of_new,
 };
-use crate::not_held::{NotHeld, NotMade};
 use machine::NoMemory;
 use run_types::Placing;
 use std::alloc::{AllocError, Global};
@@ -14,7 +14,7 @@ use std::rt;
 
 /// Why the output at this path cannot be held back now, if that is so and outputs are to be. A new file is made for a moment, if none is there. No
 /// contract says what is found, since the system may change its files at any time.
-pub fn why_not_held<R: rt::Files<File = File>>(
+pub fn why_not_held<R: rt::Files<File = File> + Copy + Drop>(
     rt: &R,
     alloc: Global,
     path: &str,
@@ -35,7 +35,7 @@ pub fn why_not_held<R: rt::Files<File = File>>(
 }
 
 // Whether the output at this path can be held back now, if outputs are to be. These files are in use.
-pub(crate) fn can_be_held<R: rt::Files<File = File>>(
+pub(crate) fn can_be_held<R: rt::Files<File = File> + Copy + Drop>(
     rt: &R,
     alloc: Global,
     path: &str,
@@ -66,7 +66,7 @@ struct HoldingLook<'a, R> {
     used: &'a [Facts],
 }
 
-impl<R: rt::Files<File = File>> HoldingLook<'_, R> {
+impl<R: rt::Files<File = File> + Copy + Drop> HoldingLook<'_, R> {
     // Holds back the output at this path for a moment, if outputs are to be.
     fn hold(&self, path: &str, append: bool) -> Result<(), NotMade> {
         if self.placing == Placing::AsWritten {
@@ -93,12 +93,21 @@ impl<R: rt::Files<File = File>> HoldingLook<'_, R> {
         let path = path_of_new(self.alloc, place)?;
         match left_at(self.rt, path.as_str(), self.used)? {
             Some(left) => self.replace_by(place, &left)?,
-            None => NewFile::make(self.rt, self.alloc, place, self.used)?.remove(self.rt),
+            None => self.make(place)?,
         }
         if self.placing == Placing::AtEndStored {
             folder_to_store(self.rt, place)?;
         }
         Ok(())
+    }
+
+    // Makes a new file for this place and removes it.
+    fn make(&self, place: &str) -> Result<(), NotMade> {
+        let mut holding = Holding::new(SystemDisk::new(*self.rt, self.alloc), self.alloc);
+        let names = names_for(self.alloc, place)?;
+        let added = holding.add(self.rt, self.alloc, &names, self.used, false);
+        let _ = holding.leave();
+        added.map(|_| ())
     }
 
     // Looks whether a file next to this place could take it.

@@ -1,5 +1,7 @@
-ghost use Rattle.std.specs.Prelude.{◌≡◌, [], false};
-ghost use Rattle.collector.specs.Files.{one_more};
+ghost use Rattle.std.specs.Prelude.{◌≡◌, [], false, None, IsErrOf, IsTrue, IfOk};
+ghost use Rattle.folders.specs.inner.Folder.{LeavesAlone};
+ghost use Rattle.folders.specs.inner.Outputs.{IsNoNew};
+ghost use Rattle.collector.specs.Files.{OpensNothing, OpensOutput, Refuses, one_more};
 ghost use Rattle.file_stores.specs.inner.Host.{shown_host};
 
 use crate::error_number::{BROKEN_PIPE, ErrorNumber};
@@ -12,11 +14,11 @@ use crate::streams::StandardStreams;
 use crate::writable::Stores;
 use amount::Spare;
 use collector::{Batch, Files, IoFailed, NeededEnd, NotOpened, Opening, Readiness};
+use folders::PlaceFault;
+use held_outputs::{Disk, Holding};
 use input::{HostInput, add_reading, ask_each, opened, wait_here};
 use machine::NoMemory;
-use output::{
-    HostOutput, add_waiting, begun, end_held_at, finish_at, leave_all, note_end_at, place_at,
-};
+use output::{FoundOutput, HostOutput, add_waiting, begun, end_held_at, finish_at, note_end_at};
 use run_types::{InName, OutName, Placing};
 use std::alloc::Global;
 use std::fs::{File, OpenOptions};
@@ -29,6 +31,7 @@ mod finding;
 mod holding;
 mod input;
 mod output;
+mod placing;
 mod report;
 mod writing;
 
@@ -41,7 +44,7 @@ mod writing;
 /// An output whose writes may wait is written by a thread of its own while another output has not come to its end. One that is held back is not.
 /// Meanwhile a long regular file is read or written by a thread too: at most as many inputs and as many outputs as there are processors.
 #[derive(Drop)]
-pub struct HostFiles<R: HostHandle, I> {
+pub struct HostFiles<R: HostHandle, I, D> {
     rt: R,
     alloc: Global,
     streams: StandardStreams,
@@ -60,17 +63,20 @@ pub struct HostFiles<R: HostHandle, I> {
     failures: u64,
     // When the outputs that are opened get what is written to them.
     placing: Placing,
+    // The new files of those that are held back, and what came of placing them.
+    holding: Holding<D>,
+    placed: Option<Result<(), PlaceFault>>,
     // Whether a write to the standard output failed since its reader has ended.
     reader_is_gone: bool,
     // The number of the error of the last read or write that failed, if the system gave one.
     last_error: ErrorNumber,
 }
 
-impl<R: HostHandle, I> Model for HostFiles<R, I> {
+impl<R: HostHandle, I, D> Model for HostFiles<R, I, D> {
     ghost use Rattle.run_types.specs.Placings.{is_held};
     ghost use Rattle.file_stores.specs.inner.Host.{HostShown};
 
-    ghost Value = { HostShown };
+    ghost Value = { HostShown D };
 
     ghost view = { λ h. record {
       openings = h.openings.items;
@@ -78,10 +84,11 @@ impl<R: HostHandle, I> Model for HostFiles<R, I> {
       outputs = h.outputs.items;
       failures = h.failures;
       held_back = is_held h.placing;
+      holding = h.holding;
     } };
 }
 
-impl<R: HostHandle, I: Inputs<HostReader<R>>> HostFiles<R, I> {
+impl<R: HostHandle, I: Inputs<HostReader<R>>, D: Disk> HostFiles<R, I, D> {
     /// No file is open but the standard streams. At most so many long inputs, and so many long outputs, get a thread.
     pub fn new(
         rt: R,
@@ -89,9 +96,17 @@ impl<R: HostHandle, I: Inputs<HostReader<R>>> HostFiles<R, I> {
         streams: StandardStreams,
         waiting: I,
         processors: usize,
-    ) -> HostFiles<R, I>
+        disk: D,
+    ) -> HostFiles<R, I, D>
         ensures { result
-            ≡ record { openings = []; inputs = []; outputs = []; failures = 0; held_back = false } }
+            ≡ record {
+              openings = [];
+              inputs = [];
+              outputs = [];
+              failures = 0;
+              held_back = false;
+              holding = record { disk = disk; outputs = [] };
+            } }
     {
         HostFiles {
             rt,
@@ -108,6 +123,8 @@ impl<R: HostHandle, I: Inputs<HostReader<R>>> HostFiles<R, I> {
             has_old_output: false,
             failures: 0,
             placing: Placing::AsWritten,
+            holding: Holding::new(disk, alloc),
+            placed: None,
             reader_is_gone: false,
             last_error: None,
         }
@@ -139,10 +156,13 @@ impl<R: HostHandle, I: Inputs<HostReader<R>>> HostFiles<R, I> {
 
     // Ends an output. One that is held back gets its rights, and is stored if it is to outlast a power cut. Returns why that failed.
     fn end_output(&mut self, file: usize) -> Result<(), ErrorNumber>
-        ensures { self.new ≡ self.old }
+        ensures rest { self.new ≡ record self.old { holding = self.new.holding } }
+        ensures outputs { self.new.holding.outputs ≡ self.old.holding.outputs }
+        ensures others { IsTrue D.names_known → LeavesAlone (IsNoNew self.old.holding.outputs)
+            (D.shows self.old.holding.disk) (D.shows self.new.holding.disk) }
     {
         self.end_written(file)?;
-        end_held_at(&mut self.outputs, file)
+        end_held_at(&mut self.outputs, file, &mut self.holding)
     }
 
     // Ends what was written to an output: closes a FIFO once it is open, and waits until the bytes of a file are stored if they may be lost. One that
@@ -164,6 +184,39 @@ impl<R: HostHandle, I: Inputs<HostReader<R>>> HostFiles<R, I> {
         }
     }
 
+    // Notes an output that was opened or refused, under this name. There is room for it.
+    fn note_output(
+        &mut self,
+        entry: OutName,
+        found: Result<FoundOutput<R>, NotOpened>,
+    ) -> Result<usize, NotOpened>
+        ensures ok { IfOk result
+            (λ file. OpensOutput entry file (shown_host self.old) (shown_host self.new)) }
+        ensures refused { IsErrOf result NotOpened.Refused
+            → Refuses (Opening.Output entry None) (shown_host self.old) (shown_host self.new) }
+        ensures no_memory { IsErrOf result NotOpened.NoMemory
+            → OpensNothing (shown_host self.old) (shown_host self.new) }
+    {
+        self.openings.reserve(1)?;
+        self.outputs.reserve(1)?;
+        match found {
+            Ok(found) => {
+                let output = begun(&self.rt, &mut self.waiting, found);
+                let number = self.outputs.len();
+                self.openings
+                    .push_reserved(Opening::Output(entry, Some(number)));
+                self.outputs.push_reserved(output);
+                self.unended = self.unended.saturating_add(1);
+                Ok(number)
+            }
+            Err(NotOpened::NoMemory) => Err(NotOpened::NoMemory),
+            Err(NotOpened::Refused) => {
+                self.openings.push_reserved(Opening::Output(entry, None));
+                Err(NotOpened::Refused)
+            }
+        }
+    }
+
     // Counts a write that failed, to the standard output or not, and remembers whether it shows that the reader has ended.
     fn fail_write(&mut self, is_standard: bool, error: ErrorNumber) -> IoFailed
         ensures { self.new ≡ record self.old { failures = one_more self.old.failures } }
@@ -182,7 +235,7 @@ impl<R: HostHandle, I: Inputs<HostReader<R>>> HostFiles<R, I> {
     }
 }
 
-impl<R: HostHandle, I: Inputs<HostReader<R>>> Files for HostFiles<R, I> {
+impl<R: HostHandle, I: Inputs<HostReader<R>>, D: Disk> Files for HostFiles<R, I, D> {
     ghost use Rattle.std.specs.Prelude.{false};
 
     ghost contents_known = { false };
@@ -220,6 +273,7 @@ impl<R: HostHandle, I: Inputs<HostReader<R>>> Files for HostFiles<R, I> {
 
     fn begin_outputs(&mut self, placing: Placing) -> Result<(), NoMemory> {
         self.placing = placing;
+        self.placed = None;
         Ok(())
     }
 
@@ -227,15 +281,14 @@ impl<R: HostHandle, I: Inputs<HostReader<R>>> Files for HostFiles<R, I> {
         if self.placing == Placing::AsWritten {
             return Ok(());
         }
-        if let Err(error) = place_at(&self.rt, &mut self.outputs, file) {
+        if let Err(error) = self.place(file) {
             return Err(self.fail(error));
         }
         Ok(())
     }
 
     fn leave_outputs(&mut self) {
-        leave_all(&self.rt, &mut self.outputs);
-        self.placing = Placing::AsWritten;
+        self.leave();
     }
 
     fn open_out(&mut self, name: &OutName) -> Result<usize, NotOpened> {
@@ -243,22 +296,8 @@ impl<R: HostHandle, I: Inputs<HostReader<R>>> Files for HostFiles<R, I> {
         self.note_old(name);
         self.openings.reserve(1)?;
         self.outputs.reserve(1)?;
-        match self.found_output(name) {
-            Ok(found) => {
-                let output = begun(&self.rt, &mut self.waiting, found);
-                let number = self.outputs.len();
-                self.openings
-                    .push_reserved(Opening::Output(entry, Some(number)));
-                self.outputs.push_reserved(output);
-                self.unended = self.unended.saturating_add(1);
-                Ok(number)
-            }
-            Err(NotOpened::NoMemory) => Err(NotOpened::NoMemory),
-            Err(NotOpened::Refused) => {
-                self.openings.push_reserved(Opening::Output(entry, None));
-                Err(NotOpened::Refused)
-            }
-        }
+        let found = self.found_output(name);
+        self.note_output(entry, found)
     }
 
     fn read(&mut self, file: usize, into: &mut [u8]) -> Result<usize, IoFailed> {
@@ -332,7 +371,7 @@ impl<R: HostHandle, I: Inputs<HostReader<R>>> Files for HostFiles<R, I> {
     }
 }
 
-impl<R: HostHandle, I: Inputs<HostReader<R>>> Readiness for HostFiles<R, I> {
+impl<R: HostHandle, I: Inputs<HostReader<R>>, D: Disk> Readiness for HostFiles<R, I, D> {
     fn would_wait(&mut self, file: usize) -> bool {
         match self.inputs.get(file) {
             Some(input) => input.logged.would_wait(&mut self.waiting),

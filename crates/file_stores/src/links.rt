@@ -1,6 +1,6 @@
 // The file that a path means, after symbolic links are followed.
 use crate::descriptors::descriptor_at;
-use crate::paths::folder_and_name;
+use held_outputs::folder_and_name;
 use std::alloc::{AllocError, Global};
 use std::{fs, rt};
 

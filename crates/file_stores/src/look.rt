@@ -1,7 +1,7 @@
 use crate::facts::{Facts, Kind, may_be_one_file, may_be_one_stream};
 use crate::holding_faults::can_be_held;
-use crate::paths::folder_and_name;
 use crate::streams::{StandardStreams, Stream};
+use held_outputs::folder_and_name;
 use machine::NoMemory;
 use run_types::{InName, OutName, Placing};
 use std::alloc::Global;
@@ -21,7 +21,7 @@ pub struct HostLook<R: rt::Files<File = File>> {
     outputs: Vec<Option<Facts>>,
 }
 
-impl<R: rt::Files<File = File> + Drop> HostLook<R> {
+impl<R: rt::Files<File = File> + Copy + Drop> HostLook<R> {
     /// Nothing was looked at.
     pub fn new(rt: R, alloc: Global, streams: StandardStreams) -> HostLook<R> {
         HostLook {

@@ -2,9 +2,8 @@
 use crate::error_number::ErrorNumber;
 use crate::facts::{Facts, Kind};
 use crate::handle::HostHandle;
-use crate::held::HeldOutput;
-use crate::paths::folder_and_name;
 use crate::patient::{HostWritable, HostWriter, Nap, Patient};
+use held_outputs::{Holding, NO_ENTRY, SystemDisk, fault_of, folder_and_name};
 use std::alloc::{AllocError, Global};
 use std::fs::{File, OpenOptions};
 use std::io::{self, Write};
@@ -23,17 +22,27 @@ enum To<R> {
     // An open file, held back or not.
     Open {
         file: HostWriter<R>,
-        held: Option<HeldOutput>,
+        held: Option<HeldReport<R>>,
     },
     // The stream at this path.
     Stream(String),
 }
 
 impl<R: HostHandle> ReportFile<R> {
-    // An open file, held back or not.
-    pub(crate) fn open(file: HostWriter<R>, held: Option<HeldOutput>) -> ReportFile<R> {
+    // An open file that is written as it comes.
+    pub(crate) fn open(file: HostWriter<R>) -> ReportFile<R> {
         ReportFile {
-            to: To::Open { file, held },
+            to: To::Open { file, held: None },
+        }
+    }
+
+    // An open file that is held back.
+    pub(crate) fn held(file: HostWriter<R>, held: HeldReport<R>) -> ReportFile<R> {
+        ReportFile {
+            to: To::Open {
+                file,
+                held: Some(held),
+            },
         }
     }
 
@@ -48,12 +57,13 @@ impl<R: HostHandle> ReportFile<R> {
     pub fn write(self, rt: &R, text: &[u8]) -> Result<(), ErrorNumber> {
         match self.to {
             To::Open { mut file, held } => match (file.write_all(text), held) {
-                (Ok(()), Some(held)) => place(rt, held),
+                (Ok(()), Some(held)) => held.place(rt),
                 (Ok(()), None) => Ok(()),
-                (Err(error), held) => {
-                    leave(rt, held);
+                (Err(error), Some(mut held)) => {
+                    let _ = held.holding.leave();
                     Err(error.raw_os_error())
                 }
+                (Err(error), None) => Err(error.raw_os_error()),
             },
             To::Stream(path) => match write_stream(rt, path.as_str(), text) {
                 Ok(()) => Ok(()),
@@ -63,25 +73,28 @@ impl<R: HostHandle> ReportFile<R> {
     }
 }
 
-// Puts a whole file in place, and stores it if it is to be stored. Leaves it if that fails.
-fn place<R: HostHandle>(rt: &R, held: HeldOutput) -> Result<(), ErrorNumber> {
-    let mut held = held;
-    let placed = match held.make_ready(rt) {
-        Ok(()) => held.put_in_place(rt),
-        Err(error) => Err(error),
-    };
-    let stored = match placed {
-        Ok(()) => held.store_folder(),
-        Err(error) => Err(error),
-    };
-    held.leave(rt);
-    stored
+// The new file of a report that is held back.
+#[derive(Drop)]
+pub(crate) struct HeldReport<R> {
+    pub(crate) holding: Holding<SystemDisk<R>>,
+    // Its number, and whether it is stored.
+    pub(crate) number: usize,
+    pub(crate) stores: bool,
 }
 
-// Leaves a file that is held back.
-fn leave<R: HostHandle>(rt: &R, held: Option<HeldOutput>) {
-    if let Some(mut held) = held {
-        held.leave(rt);
+impl<R: HostHandle> HeldReport<R> {
+    // Puts a whole file in place, and stores it if it is to be stored. Leaves it if that fails.
+    fn place(self, rt: &R) -> Result<(), ErrorNumber> {
+        let mut holding = self.holding;
+        let placed = match holding.end(self.number, self.stores) {
+            Ok(()) if holding.is_there(rt, self.number) => {
+                fault_of(holding.place(self.stores), self.number, holding.count())
+            }
+            Ok(()) => Err(Some(NO_ENTRY)),
+            Err(error) => Err(error),
+        };
+        let _ = holding.leave();
+        placed
     }
 }
 

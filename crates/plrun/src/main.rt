@@ -11,7 +11,7 @@ use crate::report::HostReport;
 use crate::room::keep_freed;
 use crate::words::HostWords;
 use file_stores::{
-    HostFiles, HostHandle, HostLook, HostReader, NotClaimed, StandardStreams, Watched,
+    HostFiles, HostHandle, HostLook, HostReader, NotClaimed, StandardStreams, SystemDisk, Watched,
 };
 use program::EXIT_REFUSED;
 use progress::{LineDesk, LineThread, LineWriter};
@@ -109,7 +109,14 @@ fn begin_here<
     let rt = process.rt;
     let alloc = process.alloc;
     let streams = process.streams;
-    let files = HostFiles::new(host, alloc, streams, inputs, processors(process.threads));
+    let files = HostFiles::new(
+        host,
+        alloc,
+        streams,
+        inputs,
+        processors(process.threads),
+        SystemDisk::new(host, alloc),
+    );
     process.begin(
         &HostWords(rt),
         &mut HostFolder::new(rt, alloc),

@@ -1,6 +1,8 @@
 // The file of the statistics of a run, among the files of the system.
 use collector::NotOpened;
-use file_stores::{HostFiles, HostHandle, HostReader, ReportFile, Watch, Watched, is_one_place};
+use file_stores::{
+    Disk, HostFiles, HostHandle, HostReader, ReportFile, Watch, Watched, is_one_place,
+};
 use planner::Plan;
 use program::{OpensReport, Report};
 use run_types::{InName, OutName, Placing};
@@ -65,14 +67,15 @@ fn error_of(number: Option<i32>) -> io::Error {
     }
 }
 
-impl<R: HostHandle, I: Inputs<HostReader<R>>, W: Watch> OpensReport<Watched<HostFiles<R, I>, W>>
-    for HostReport<R> {
+impl<R: HostHandle, I: Inputs<HostReader<R>>, D: Disk, W: Watch> OpensReport<
+    Watched<HostFiles<R, I, D>, W>,
+> for HostReport<R> {
     fn open(
         &mut self,
         name: &[u8],
         placing: Placing,
         plan: Option<&Plan>,
-        files: &Watched<HostFiles<R, I>, W>,
+        files: &Watched<HostFiles<R, I, D>, W>,
     ) -> Result<(), NotOpened> {
         let copy = Vec::from_slice(self.alloc, name)?;
         self.names.reserve(1)?;

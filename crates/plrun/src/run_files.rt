@@ -3,7 +3,7 @@ ghost use Rattle.std.specs.Prelude.{◌≡◌};
 ghost use Rattle.file_stores.specs.inner.Host.{shown_host};
 
 use collector::Readiness;
-use file_stores::{HostFiles, HostHandle, HostReader, Watch, Watched};
+use file_stores::{Disk, HostFiles, HostHandle, HostReader, Watch, Watched};
 use waiting_inputs::Inputs;
 
 /// Files that a run of the process ends.
@@ -30,8 +30,8 @@ pub(crate) trait TakesWatch<W>: RunFiles {
         ensures shows { Self.shows self.new ≡ Self.shows self.old };
 }
 
-impl<R: HostHandle, I: Inputs<HostReader<R>>, W: Watch> RunFiles
-    for Watched<HostFiles<R, I>, Option<W>> {
+impl<R: HostHandle, I: Inputs<HostReader<R>>, D: Disk, W: Watch> RunFiles
+    for Watched<HostFiles<R, I, D>, Option<W>> {
     fn end(&mut self) -> bool {
         self.end_watch();
         self.inside().reader_is_gone()
@@ -42,8 +42,8 @@ impl<R: HostHandle, I: Inputs<HostReader<R>>, W: Watch> RunFiles
     }
 }
 
-impl<R: HostHandle, I: Inputs<HostReader<R>>, W: Watch> TakesWatch<W>
-    for Watched<HostFiles<R, I>, Option<W>> {
+impl<R: HostHandle, I: Inputs<HostReader<R>>, D: Disk, W: Watch> TakesWatch<W>
+    for Watched<HostFiles<R, I, D>, Option<W>> {
     fn watch(&mut self, watch: Option<W>)
         ensures shows { shown_host self.new ≡ shown_host self.old }
     {

@@ -14,15 +14,15 @@ use Rattle.file_stores.proofs.lemmas.Holdings.{reads_go_on}
 use Rattle.file_stores.proofs.lemmas.Numbers.{log_at, log_set, log_set_others, log_set_same}
 use Rattle.file_stores.proofs.lemmas.Numbers.{log_within}
 
-module _ (file : ℕ) (held old new : HostShown) (is : held ≡ old) where
+module _ {D : Type 0} (file : ℕ) (held old new : HostShown D) (is : held ≡ old) where
   module _ (was now : HostInputShown) (opened : IsSome ((shown_host old).inputs file))
       (log : was ≡ get_or held.inputs file was)
       (after : new ≡ record held { inputs = set held.inputs file now }) where
     reads_after : new ≡ record old { inputs = set old.inputs file now }
-    reads_after = after ∙ ap (λ (h : HostShown). record h { inputs = set h.inputs file now }) is
+    reads_after = after ∙ ap (λ (h : HostShown D). record h { inputs = set h.inputs file now }) is
 
     was_is : was ≡ get_or old.inputs file was
-    was_is = subst (λ (h : HostShown). was ≡ get_or h.inputs file was) is log
+    was_is = subst (λ (h : HostShown D). was ≡ get_or h.inputs file was) is log
 
     inside : file < length old.inputs
     inside = log_within (λ (i : HostInputShown). i.log) old.inputs file opened
@@ -33,7 +33,7 @@ module _ (file : ℕ) (held old new : HostShown) (is : held ≡ old) where
         ∙ ap (λ (i : HostInputShown). i.log) (sym was_is)
 
     now_at : (shown_host new).inputs file ≡ Some now.log
-    now_at = ap (λ (h : HostShown). (shown_host h).inputs file) reads_after
+    now_at = ap (λ (h : HostShown D). (shown_host h).inputs file) reads_after
         ∙ log_set (λ (i : HostInputShown). i.log) old.inputs file now inside
 
     now_is : reads_of (shown_host new) file ≡ now.log
@@ -44,7 +44,7 @@ module _ (file : ℕ) (held old new : HostShown) (is : held ≡ old) where
       targets = λ k. refl;
       contents = λ d. refl;
       places = record {
-        held_back = ap (λ (h : HostShown). h.held_back) reads_after;
+        held_back = ap (λ (h : HostShown D). h.held_back) reads_after;
         in_place =
             λ back name. refl;
       };
@@ -53,7 +53,7 @@ module _ (file : ℕ) (held old new : HostShown) (is : held ≡ old) where
     -- every input has the note that it had, if this one has
     same_left : now.left ≡ was.left → (k : ℕ) → (shown_host new).left_out k
         ≡ (shown_host old).left_out k
-    same_left kept k = ap (λ (h : HostShown). (shown_host h).left_out k) reads_after
+    same_left kept k = ap (λ (h : HostShown D). (shown_host h).left_out k) reads_after
         ∙ ap (λ (o : Option LeftOut). unwrap_or o Nothing)
         (log_set_same (λ (i : HostInputShown). i.left) old.inputs file now was inside
         (kept ∙ ap (λ (i : HostInputShown). i.left) was_is) k)
@@ -65,13 +65,13 @@ module _ (file : ℕ) (held old new : HostShown) (is : held ≡ old) where
     pub host_reads : now.left ≡ was.left → (room : ℕ) (given : List ℕ)
         → Reads room given was.log now.log → ReadsOnly file (shown_host old) (shown_host new)
     host_reads kept room given r = record {
-      openings = ap (λ (h : HostShown). h.openings) reads_after;
+      openings = ap (λ (h : HostShown D). h.openings) reads_after;
       still = subst (λ (o : Option ReadLog). IsSome o) (sym now_at) refl;
       goes_on = reads_go_on room given (reads_of (shown_host old) file)
           (reads_of (shown_host new) file) (host_told room given r);
-      inputs = λ k ne. ap (λ (h : HostShown). (shown_host h).inputs k) reads_after
+      inputs = λ k ne. ap (λ (h : HostShown D). (shown_host h).inputs k) reads_after
           ∙ log_set_others (λ (i : HostInputShown). i.log) old.inputs file now k ne;
-      outputs = λ k. ap (λ (h : HostShown). (shown_host h).outputs k) reads_after;
+      outputs = λ k. ap (λ (h : HostShown D). (shown_host h).outputs k) reads_after;
       contents = same_contents;
       held = record { standard_input = refl; held = λ k. refl; left_out = same_left kept };
       reads = λ content is was. cc;
@@ -104,13 +104,13 @@ module _ (file : ℕ) (held old new : HostShown) (is : held ≡ old) where
       (log : was ≡ get_or held.outputs file was)
       (after : new ≡ record held { outputs = set held.outputs file now }) where
     pub writes_after : new ≡ record old { outputs = set old.outputs file now }
-    writes_after = after ∙ ap (λ (h : HostShown). record h { outputs = set h.outputs file now }) is
+    writes_after = after ∙ ap (λ (h : HostShown D). record h { outputs = set h.outputs file now }) is
 
     open_at : file < length old.outputs
     open_at = log_within (λ (o : HostOutputShown). o.log) old.outputs file opened
 
     output_is : was ≡ get_or old.outputs file was
-    output_is = subst (λ (h : HostShown). was ≡ get_or h.outputs file was) is log
+    output_is = subst (λ (h : HostShown D). was ≡ get_or h.outputs file was) is log
 
     -- the record of the output was this one
     pub log_before : log_of (shown_host old) file ≡ was.log
@@ -119,7 +119,7 @@ module _ (file : ℕ) (held old new : HostShown) (is : held ≡ old) where
         ∙ ap (λ (o : HostOutputShown). o.log) (sym output_is)
 
     pub log_there : (shown_host new).outputs file ≡ Some now.log
-    log_there = ap (λ (h : HostShown). (shown_host h).outputs file) writes_after
+    log_there = ap (λ (h : HostShown D). (shown_host h).outputs file) writes_after
         ∙ log_set (λ (o : HostOutputShown). o.log) old.outputs file now open_at
 
     -- and it is that one now
@@ -133,30 +133,29 @@ module _ (file : ℕ) (held old new : HostShown) (is : held ≡ old) where
 
       pub host_writes : WritesOnly file (shown_host old) (shown_host new)
       host_writes = record {
-        openings = ap (λ (h : HostShown). h.openings) writes_after;
+        openings = ap (λ (h : HostShown D). h.openings) writes_after;
         still = subst (λ (o : Option WriteLog). IsSome o) (sym log_there) refl;
         grows = record { more = more; log = host_took; content = λ d held t was. cc };
-        inputs = λ k. ap (λ (h : HostShown). (shown_host h).inputs k) writes_after;
-        outputs = λ k ne. ap (λ (h : HostShown). (shown_host h).outputs k) writes_after
+        inputs = λ k. ap (λ (h : HostShown D). (shown_host h).inputs k) writes_after;
+        outputs = λ k ne. ap (λ (h : HostShown D). (shown_host h).outputs k) writes_after
             ∙ log_set_others (λ (o : HostOutputShown). o.log) old.outputs file now k ne;
         targets = λ k. refl;
         held = record {
           standard_input = refl;
           held = λ k. refl;
-          left_out = λ k. ap (λ (h : HostShown). (shown_host h).left_out k) writes_after;
+          left_out = λ k. ap (λ (h : HostShown D). (shown_host h).left_out k) writes_after;
         };
         others = λ d t. refl;
         places = record {
-          held_back = ap (λ (h : HostShown). h.held_back) writes_after;
+          held_back = ap (λ (h : HostShown D). h.held_back) writes_after;
           in_place =
               λ back name. refl;
         };
       }
 
 -- failures tell nothing of what was written
-pub other_failures : (file f : ℕ) (a : FilesShown) (mid : HostShown)
-    → WritesOnly file a (shown_host mid)
-    → WritesOnly file a (shown_host (record mid { failures = f }))
+pub other_failures : (file f : ℕ) (a mid : FilesShown) → WritesOnly file a mid
+    → WritesOnly file a (record mid { failures = f })
 other_failures file f a mid w = record {
   openings = w.openings;
   still = w.still;

@@ -24,14 +24,14 @@ settles_some old new (inr w) none =
     ([], (old.out, refl), log_is _ _ (w.0 ∙ sym (append-nil old.taken)) none)
 
 -- an output with such a number is open
-pub opened_at : (file : ℕ) (held old : HostShown) → held ≡ old → file < length held.outputs
+pub opened_at : {D : Type 0} (file : ℕ) (held old : HostShown D) → held ≡ old → file < length held.outputs
     → IsSome ((shown_host old).outputs file)
-opened_at file held old is h = subst (λ (s : HostShown). IsSome ((shown_host s).outputs file)) is
+opened_at {D} file held old is h = subst (λ (s : HostShown D). IsSome ((shown_host s).outputs file)) is
     (subst (λ (o : Option WriteLog). IsSome o)
     (sym (log_at (λ (o : HostOutputShown). o.log) held.outputs file
     (record { log = nothing_written }) h)) refl)
 
-module _ (file : ℕ) (held old new : HostShown) (is : held ≡ old) (was now : HostOutputShown)
+module _ {D : Type 0} (file : ℕ) (held old new : HostShown D) (is : held ≡ old) (was now : HostOutputShown)
     (opened : IsSome ((shown_host old).outputs file)) (log : was ≡ get_or held.outputs file was)
     (after : new ≡ record held { outputs = set held.outputs file now }) where
   before : log_of (shown_host old) file ≡ was.log
@@ -51,7 +51,7 @@ module _ (file : ℕ) (held old new : HostShown) (is : held ≡ old) (was now : 
         ∙ ap (λ (o : HostOutputShown). Some o.log) handed
         ∙ ap (λ (l : WriteLog). Some (record { bytes = l.bytes; out = bytes })) (sym before);
     failures =
-        ap (λ (h : HostShown). h.failures)
+        ap (λ (h : HostShown D). h.failures)
         (writes_after file held old new is was now opened log after);
   }
 

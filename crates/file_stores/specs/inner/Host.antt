@@ -3,6 +3,7 @@
 use Rattle.std.specs.Prelude.{ℕ, Bool, List, None, slice_get, unwrap_or}
 use Rattle.std.specs.Option.{option_map}
 use Rattle.collector.specs.Files.{FilesShown, ReadLog, WriteLog, nothing_read}
+use Rattle.held_outputs.specs.inner.Holding.{HoldingShown}
 use Rattle.collector.specs.declared.needed.LeftOut.{LeftOut}
 use Rattle.collector.specs.declared.needed.LeftOut.TheVariants.{Nothing}
 use Rattle.collector.specs.declared.names.Opening.{Opening}
@@ -20,17 +21,18 @@ opened_now = record { log = nothing_read; left = Nothing }
 pub record HostOutputShown : Type 0 where
   pub log : WriteLog
 
--- the openings so far, each open input, each open output, the failures, and whether outputs are held
--- back
-pub record HostShown : Type 0 where
+-- the openings so far, each open input, each open output, the failures, whether outputs are held
+-- back, and the new files of those that are
+pub record HostShown (D : Type 0) : Type 0 where
   pub openings : List Opening
   pub inputs : List HostInputShown
   pub outputs : List HostOutputShown
   pub failures : ℕ
   pub held_back : Bool
+  pub holding : HoldingShown D
 
 -- what the files of the host show, as any files do
-abbrev pub shown_host : HostShown → FilesShown
+abbrev pub shown_host : {D : Type 0} → HostShown D → FilesShown
 shown_host h = record {
   openings = h.openings;
   inputs = λ file. option_map (λ i. i.log) (slice_get h.inputs file);

@@ -15,12 +15,13 @@ use crate::streams::Stream;
 use crate::writable::{Writable, writable_fifo};
 use collector::NotOpened;
 use command_words::{Word, is_input_path};
+use held_outputs::Disk;
 use run_types::{InName, OutName, Placing};
 use std::fs::{File, OpenOptions};
 use std::{rt, str};
 use waiting_inputs::Inputs;
 
-impl<R: HostHandle, I: Inputs<HostReader<R>>> HostFiles<R, I> {
+impl<R: HostHandle, I: Inputs<HostReader<R>>, D: Disk> HostFiles<R, I, D> {
     // An input that can be opened. At Err it is refused, or memory was.
     pub(super) fn found_input(&self, name: &InName) -> Result<Found<R>, NotOpened> {
         match name {
@@ -91,7 +92,9 @@ impl<R: HostHandle, I: Inputs<HostReader<R>>> HostFiles<R, I> {
     }
 
     // An output that can be written to. At Err it is refused, or memory was.
-    pub(super) fn found_output(&self, name: &OutName) -> Result<FoundOutput<R>, NotOpened> {
+    pub(super) fn found_output(&mut self, name: &OutName) -> Result<FoundOutput<R>, NotOpened>
+        ensures { self.new ≡ record self.old { holding = self.new.holding } }
+    {
         match name {
             OutName::Standard => self.standard_output(),
             OutName::File { .. } if self.is_old(name) && self.uses_unknown() => {
@@ -135,7 +138,9 @@ impl<R: HostHandle, I: Inputs<HostReader<R>>> HostFiles<R, I> {
     }
 
     // The output of this name. A FIFO is not opened yet.
-    fn named_output(&self, path: &str, append: bool) -> Result<FoundOutput<R>, NotOpened> {
+    fn named_output(&mut self, path: &str, append: bool) -> Result<FoundOutput<R>, NotOpened>
+        ensures { self.new ≡ record self.old { holding = self.new.holding } }
+    {
         self.refuse_descriptor(path)?;
         match fifo_at(&self.rt, path) {
             Some(facts) => self.fifo_output(path, append, facts),
@@ -207,7 +212,7 @@ impl<R: HostHandle, I: Inputs<HostReader<R>>> HostFiles<R, I> {
         };
         self.inputs.iter().any(|input| is_of(input.facts, facts))
             || self.outputs.iter().any(|output| is_of(output.facts, facts)
-                || is_of(output.replaced(), facts))
+                || is_of(output.replaced(&self.holding), facts))
     }
 }
 

@@ -1,4 +1,6 @@
 // The outputs of the host that are held back until the run has finished.
+ghost use Rattle.std.specs.Prelude.{◌≡◌};
+
 use super::HostFiles;
 use super::input::HostInput;
 use super::output::{FoundOutput, HostOutput};
@@ -7,28 +9,30 @@ use crate::facts::{Facts, Kind};
 use crate::handle::HostHandle;
 use crate::held::HeldOutput;
 use crate::links::{Meant, meant_by};
-use crate::new_file::{NewFile, folder_to_store};
-use crate::not_held::{NotHeld, NotMade};
-use crate::paths::folder_and_name;
+use crate::not_held::not_opened;
 use crate::patient::{HostReader, Nap, Pause};
 use crate::writable::Writable;
 use collector::NotOpened;
+use folders::Output;
+use held_outputs::{Added, Disk, Holding, NotHeld, NotMade, folder_and_name, names_for};
 use machine::NoMemory;
 use run_types::Placing;
-use std::alloc::AllocError;
+use std::alloc::{AllocError, Global};
 use std::fs::File;
 use waiting_inputs::Inputs;
 
 // How often a new file is tried, if another run has the lock: a look at the outputs has it for a moment.
 const TRIES: u32 = 10;
 
-impl<R: HostHandle, I: Inputs<HostReader<R>>> HostFiles<R, I> {
+impl<R: HostHandle, I: Inputs<HostReader<R>>, D: Disk> HostFiles<R, I, D> {
     // The output at this path, held back if it is a regular file or is not there. Anything else is written as it comes.
     pub(super) fn held_output(
-        &self,
+        &mut self,
         path: &str,
         append: bool,
-    ) -> Result<FoundOutput<R>, NotOpened> {
+    ) -> Result<FoundOutput<R>, NotOpened>
+        ensures { self.new ≡ record self.old { holding = self.new.holding } }
+    {
         let place = match meant_by(&self.rt, self.alloc, path)? {
             Meant::File(place) => place,
             Meant::Descriptor => return self.as_written(path, append),
@@ -42,53 +46,46 @@ impl<R: HostHandle, I: Inputs<HostReader<R>>> HostFiles<R, I> {
     }
 
     // The output at this path, written as it comes.
-    fn as_written(&self, path: &str, append: bool) -> Result<FoundOutput<R>, NotOpened> {
+    pub(super) fn as_written(&self, path: &str, append: bool) -> Result<FoundOutput<R>, NotOpened> {
         self.file_output(path, append).ok_or(NotOpened::Refused)
     }
 
     // A new file that is to get this path. It is refused if it gets in the way of another one.
-    fn replacing(&self, place: &str) -> Result<FoundOutput<R>, NotOpened> {
+    fn replacing(&mut self, place: &str) -> Result<FoundOutput<R>, NotOpened>
+        ensures { self.new ≡ record self.old { holding = self.new.holding } }
+    {
         let used = self.files_in_use()?;
-        let new = self.new_file(place, used.as_slice())?;
-        match (new.handle(), self.folder_of(place)) {
-            (Some(file), Ok(folder)) if !self.clashes_with(&new) => {
-                let facts = new.facts();
-                let held = HeldOutput::new_file(new, self.stores(), folder);
-                Ok(self.held(file, facts, held))
-            }
-            _ => {
-                new.remove(&self.rt);
-                Err(NotOpened::Refused)
-            }
-        }
-    }
-
-    // A new file that is to get this path. If its name is locked, it is tried again after a nap.
-    fn new_file(&self, place: &str, used: &[Facts]) -> Result<NewFile, NotMade> {
-        for nap in 0..TRIES {
-            match NewFile::make(&self.rt, self.alloc, place, used) {
-                Err(NotMade::NotHeld(NotHeld::Locked)) => Nap(self.rt).pause(nap),
-                tried => return tried,
-            }
-        }
-        Err(NotMade::NotHeld(NotHeld::Locked))
+        let names = names_for(self.alloc, place)?;
+        let stores = self.stores();
+        let added = add_in_time(
+            &self.rt,
+            self.alloc,
+            &mut self.holding,
+            &names,
+            used.as_slice(),
+            stores,
+        );
+        let Added {
+            number,
+            file,
+            facts,
+        } = added.map_err(not_opened)?;
+        Ok(self.held(file, facts, HeldOutput::new_file(number, stores)))
     }
 
     // The file at this path, which is appended to. It is made if it is not there.
-    fn appended(&self, place: &str) -> Result<FoundOutput<R>, NotOpened> {
+    fn appended(&mut self, place: &str) -> Result<FoundOutput<R>, NotOpened>
+        ensures { self.new ≡ record self.old { holding = self.new.holding } }
+    {
         if self.is_to_be_replaced(place) {
             return Err(NotOpened::Refused);
         }
-        let appended = Appended::open(&self.rt, self.alloc, place)?;
-        let folder = if appended.is_made() {
-            self.folder_of(place)
-        } else {
-            Ok(None)
-        };
+        let appended = Appended::open(&self.rt, self.alloc, place).map_err(not_opened)?;
+        let is_kept = !appended.is_made() || self.keeps_folder(place);
         let facts = appended.facts();
-        match (appended.handle(), folder) {
-            (Some(file), Ok(folder)) if is_regular(facts) && !self.has_open(facts) => {
-                let held = HeldOutput::appended(appended, self.stores(), folder);
+        match appended.handle() {
+            Some(file) if is_kept && is_regular(facts) && !self.has_open(facts) => {
+                let held = HeldOutput::appended(appended, self.stores());
                 Ok(self.held(file, facts, held))
             }
             _ => {
@@ -98,8 +95,26 @@ impl<R: HostHandle, I: Inputs<HostReader<R>>> HostFiles<R, I> {
         }
     }
 
+    // Whether the folder of this place is kept to be stored, if it is to be stored.
+    fn keeps_folder(&mut self, place: &str) -> bool
+        ensures { self.new ≡ record self.old { holding = self.new.holding } }
+    {
+        if !self.stores() {
+            return true;
+        }
+        match names_for(self.alloc, place) {
+            Ok(names) => self.holding.keep_folder(&names.place).is_ok(),
+            Err(_) => false,
+        }
+    }
+
     // This file as an output that is held back.
-    fn held(&self, file: File, facts: Option<Facts>, held: HeldOutput) -> FoundOutput<R> {
+    pub(super) fn held(
+        &self,
+        file: File,
+        facts: Option<Facts>,
+        held: HeldOutput,
+    ) -> FoundOutput<R> {
         FoundOutput {
             to: self.patient(Writable::file(file)),
             is_standard: false,
@@ -114,40 +129,40 @@ impl<R: HostHandle, I: Inputs<HostReader<R>>> HostFiles<R, I> {
         self.placing == Placing::AtEndStored
     }
 
-    // The folder of this place, if it is to be stored and no other output has it.
-    fn folder_of(&self, place: &str) -> Result<Option<File>, NotMade> {
-        if !self.stores() {
-            return Ok(None);
-        }
-        let folder = folder_to_store(&self.rt, place)?;
-        let facts = Facts::of(&folder).ok_or(NotMade::Refused)?;
-        if self.outputs.iter().any(|output| output.has_folder(facts)) {
-            return Ok(None);
-        }
-        Ok(Some(folder))
-    }
-
     // Whether another output is to replace what is at this place.
     fn is_to_be_replaced(&self, place: &str) -> bool {
         let (folder, name) = folder_and_name(place);
         match Facts::at(&self.rt, folder) {
-            Some(facts) => self.outputs.iter().any(|output| output.is_for(facts, name)),
+            Some(facts) => self.holding.is_for(facts, name),
             None => false,
         }
     }
 
     // The regular files that are open, or that outputs are to replace.
-    fn files_in_use(&self) -> Result<Vec<Facts>, NoMemory> {
+    pub(super) fn files_in_use(&self) -> Result<Vec<Facts>, NoMemory> {
         let mut used = Vec::new(self.alloc);
         add_inputs(self.inputs.as_slice(), &mut used)?;
-        add_outputs(self.outputs.as_slice(), &mut used)?;
+        add_outputs(self.outputs.as_slice(), &self.holding, &mut used)?;
         Ok(used)
     }
+}
 
-    // Whether this new file and that of another output would get in each other's way.
-    fn clashes_with(&self, new: &NewFile) -> bool {
-        self.outputs.iter().any(|output| output.clashes_with(new))
+// Adds a new file with these names. If its name is locked, it is tried again after a nap.
+pub(super) fn add_in_time<R: HostHandle, D: Disk>(
+    rt: &R,
+    alloc: Global,
+    holding: &mut Holding<D>,
+    names: &Output,
+    used: &[Facts],
+    stores: bool,
+) -> Result<Added, NotMade> {
+    for nap in 0..TRIES {
+        match holding.add(rt, alloc, names, used, stores) {
+            Err(NotMade::NotHeld(NotHeld::Locked)) => Nap(*rt).pause(nap),
+            tried => return tried,
+        }
     }
+    Err(NotMade::NotHeld(NotHeld::Locked))
 }
 
 // Adds the inputs that are regular files.
@@ -162,13 +177,14 @@ fn add_inputs<R: HostHandle>(
 }
 
 // Adds the outputs that are regular files, and the files that outputs are to replace.
-fn add_outputs<R: HostHandle>(
+fn add_outputs<R: HostHandle, D: Disk>(
     outputs: &[HostOutput<R>],
+    holding: &Holding<D>,
     to: &mut Vec<Facts>,
 ) -> Result<(), AllocError> {
     for output in outputs {
         add_regular(output.facts, to)?;
-        add_regular(output.replaced(), to)?;
+        add_regular(output.replaced(holding), to)?;
     }
     Ok(())
 }

@@ -1,5 +1,7 @@
 // The open outputs of the host.
-ghost use Rattle.std.specs.Prelude.{◌≡◌, ◌≤◌, [], ◌++◌, length, take, IfOk, IfErr, IsOk, OnOk, OnErr};
+ghost use Rattle.std.specs.Prelude.{◌≡◌, ◌≤◌, [], ◌++◌, length, take, IfOk, IfErr, IsOk, IsTrue, OnOk, OnErr};
+ghost use Rattle.folders.specs.inner.Folder.{LeavesAlone};
+ghost use Rattle.folders.specs.inner.Outputs.{IsNoNew};
 ghost use Rattle.collector.specs.Files.{batch_bytes, nothing_written, SettlesAll, SettlesSome};
 
 use super::amount::{Amount, Spare};
@@ -9,9 +11,10 @@ use crate::facts::{Facts, Kind};
 use crate::handle::HostHandle;
 use crate::held::HeldOutput;
 use crate::logged::{LoggedInput, Waiting};
-use crate::new_file::NewFile;
 use crate::patient::{HostReader, HostWriter};
 use collector::Batch;
+use folders::PlaceFault;
+use held_outputs::{Disk, Holding};
 use run_types::Placing;
 use std::alloc::{AllocError, Global};
 use std::marker::Model;
@@ -229,78 +232,50 @@ impl<R: HostHandle> HostOutput<R> {
     }
 
     // What the system says of the file that it is to replace, if it is held back and there is one.
-    pub(crate) fn replaced(&self) -> Option<Facts> {
-        self.held.as_ref()?.replaced()
-    }
-
-    // Whether this new file and its own would get in each other's way.
-    pub(crate) fn clashes_with(&self, new: &NewFile) -> bool {
-        match &self.held {
-            Some(held) => held.clashes_with(new),
-            None => false,
-        }
-    }
-
-    // Whether it is to replace what has this name in this folder.
-    pub(crate) fn is_for(&self, folder: Facts, name: &str) -> bool {
-        match &self.held {
-            Some(held) => held.is_for(folder, name),
-            None => false,
-        }
-    }
-
-    // Whether it has this folder, to store it.
-    pub(crate) fn has_folder(&self, folder: Facts) -> bool {
-        match &self.held {
-            Some(held) => held.has_folder(folder),
-            None => false,
-        }
-    }
-
-    // Whether its file is held back, and neither in place nor left.
-    pub(crate) fn is_waiting(&self) -> bool {
-        match &self.held {
-            Some(held) => held.is_waiting(),
-            None => false,
-        }
+    pub(crate) fn replaced<D: Disk>(&self, holding: &Holding<D>) -> Option<Facts> {
+        self.held.as_ref()?.replaced(holding)
     }
 
     // Gives its file the rights that it is to have, and stores it if it is to be stored, if it is held back. Returns why that failed.
-    pub(crate) fn end_held(&mut self) -> Result<(), ErrorNumber>
-        ensures { self.new ≡ self.old }
+    pub(crate) fn end_held<D: Disk>(&mut self, holding: &mut Holding<D>) -> Result<(), ErrorNumber>
+        ensures same { self.new ≡ self.old }
+        ensures outputs { holding.new.outputs ≡ holding.old.outputs }
+        ensures others { IsTrue D.names_known → LeavesAlone (IsNoNew holding.old.outputs)
+            (D.shows holding.old.disk) (D.shows holding.new.disk) }
     {
         match &mut self.held {
-            Some(held) => held.end(),
+            Some(held) => held.end(holding),
             None => Ok(()),
         }
     }
 
     // Makes its file ready to be put in place, if that is held back. Returns why that failed.
-    pub(crate) fn make_ready(&mut self, rt: &R) -> Result<(), ErrorNumber>
-        ensures { self.new ≡ self.old }
+    pub(crate) fn make_ready<D: Disk>(
+        &mut self,
+        rt: &R,
+        holding: &mut Holding<D>,
+    ) -> Result<(), ErrorNumber>
+        ensures same { self.new ≡ self.old }
+        ensures outputs { holding.new.outputs ≡ holding.old.outputs }
+        ensures others { IsTrue D.names_known → LeavesAlone (IsNoNew holding.old.outputs)
+            (D.shows holding.old.disk) (D.shows holding.new.disk) }
     {
         match &mut self.held {
-            Some(held) => held.make_ready(rt),
+            Some(held) => held.make_ready(rt, holding),
             None => Ok(()),
         }
     }
 
-    // Puts its file in place, if that is held back and ready. Returns why that failed.
-    pub(crate) fn put_in_place(&mut self, rt: &R) -> Result<(), ErrorNumber>
+    // Notes that its file is in place, if that is held back and ready, and this came of placing this many new files. Returns why it is not.
+    pub(crate) fn note_placed(
+        &mut self,
+        placed: Result<(), PlaceFault>,
+        count: usize,
+    ) -> Result<(), ErrorNumber>
         ensures { self.new ≡ self.old }
     {
         match &mut self.held {
-            Some(held) => held.put_in_place(rt),
-            None => Ok(()),
-        }
-    }
-
-    // Stores the folder of its file, if it has one. Returns why that failed.
-    pub(crate) fn store_folder(&mut self) -> Result<(), ErrorNumber>
-        ensures { self.new ≡ self.old }
-    {
-        match &mut self.held {
-            Some(held) => held.store_folder(),
+            Some(held) => held.note_placed(placed, count),
             None => Ok(()),
         }
     }
@@ -369,83 +344,52 @@ pub(crate) fn finish_at<R: HostHandle, I: Inputs<HostReader<R>>>(
 }
 
 // Ends what is held back of the output with this number, as `HostOutput::end_held` does.
-pub(crate) fn end_held_at<R: HostHandle>(
+pub(crate) fn end_held_at<R: HostHandle, D: Disk>(
     outputs: &mut Vec<HostOutput<R>>,
     file: usize,
+    holding: &mut Holding<D>,
+) -> Result<(), ErrorNumber>
+    ensures same { outputs.new.items ≡ outputs.old.items }
+    ensures outputs { holding.new.outputs ≡ holding.old.outputs }
+    ensures others { IsTrue D.names_known → LeavesAlone (IsNoNew holding.old.outputs)
+        (D.shows holding.old.disk) (D.shows holding.new.disk) }
+{
+    if file < outputs.len() {
+        outputs[file].end_held(holding)
+    } else {
+        Ok(())
+    }
+}
+
+// Notes that the output with this number is in place, as `HostOutput::note_placed` does.
+pub(crate) fn note_placed_at<R: HostHandle>(
+    outputs: &mut Vec<HostOutput<R>>,
+    file: usize,
+    placed: Result<(), PlaceFault>,
+    count: usize,
 ) -> Result<(), ErrorNumber>
     ensures { outputs.new.items ≡ outputs.old.items }
 {
     if file < outputs.len() {
-        outputs[file].end_held()
+        outputs[file].note_placed(placed, count)
     } else {
         Ok(())
     }
-}
-
-// Puts the file of the output with this number in place, as `HostOutput::put_in_place` does. Before the first one each output is made ready, and after
-// the last one their folders are stored.
-pub(crate) fn place_at<R: HostHandle>(
-    rt: &R,
-    outputs: &mut Vec<HostOutput<R>>,
-    file: usize,
-) -> Result<(), ErrorNumber>
-    ensures { outputs.new.items ≡ outputs.old.items }
-{
-    make_all_ready(rt, outputs)?;
-    put_at(rt, outputs, file)?;
-    store_after_last(outputs)
-}
-
-// Puts the file of the output with this number in place, if it is ready.
-fn put_at<R: HostHandle>(
-    rt: &R,
-    outputs: &mut Vec<HostOutput<R>>,
-    file: usize,
-) -> Result<(), ErrorNumber>
-    ensures { outputs.new.items ≡ outputs.old.items }
-{
-    if file < outputs.len() {
-        outputs[file].put_in_place(rt)
-    } else {
-        Ok(())
-    }
-}
-
-// Stores the folders of all outputs, if none is to be put in place any more.
-fn store_after_last<R: HostHandle>(outputs: &mut Vec<HostOutput<R>>) -> Result<(), ErrorNumber>
-    ensures { outputs.new.items ≡ outputs.old.items }
-{
-    if is_any_waiting(outputs.as_slice()) {
-        Ok(())
-    } else {
-        store_folders(outputs)
-    }
-}
-
-// Whether an output is held back, and neither in place nor left.
-fn is_any_waiting<R: HostHandle>(outputs: &[HostOutput<R>]) -> bool {
-    outputs.iter().any(HostOutput::is_waiting)
 }
 
 // Makes each output ready to be put in place, if it is held back. Returns why one failed.
-fn make_all_ready<R: HostHandle>(
+pub(crate) fn make_all_ready<R: HostHandle, D: Disk>(
     rt: &R,
     outputs: &mut Vec<HostOutput<R>>,
+    holding: &mut Holding<D>,
 ) -> Result<(), ErrorNumber>
-    ensures { outputs.new.items ≡ outputs.old.items }
+    ensures same { outputs.new.items ≡ outputs.old.items }
+    ensures outputs { holding.new.outputs ≡ holding.old.outputs }
+    ensures others { IsTrue D.names_known → LeavesAlone (IsNoNew holding.old.outputs)
+        (D.shows holding.old.disk) (D.shows holding.new.disk) }
 {
     for file in 0..outputs.len() {
-        outputs[file].make_ready(rt)?;
-    }
-    Ok(())
-}
-
-// Stores the folders of all outputs. Returns why one failed.
-fn store_folders<R: HostHandle>(outputs: &mut Vec<HostOutput<R>>) -> Result<(), ErrorNumber>
-    ensures { outputs.new.items ≡ outputs.old.items }
-{
-    for file in 0..outputs.len() {
-        outputs[file].store_folder()?;
+        outputs[file].make_ready(rt, holding)?;
     }
     Ok(())
 }

@@ -32,16 +32,15 @@ returns-in-Ok-clause-idle g c = λ none. (
 
 pub returns-in-Err-clause-only : goal.returns-in-Err-clause-only
 returns-in-Err-clause-only g c = λ opened.
-    subst (λ (s : HostShown). WritesOnly c.args.file (shown_host c.args.self.now) (shown_host s))
-    (sym c.fail_write.ensures)
-    (other_failures c.args.file _ (shown_host c.args.self.now) _
-    (host_writes_some c.args.file _ c.args.self.now _ c.self.view_is
+    let writes = host_writes_some c.args.file _ c.args.self.now _ c.self.view_is
     c.index_mut-output.result.now c.settle.new.self opened c.index_mut-output.ensures.value refl
-    c.in-Err.ensures.some))
+    c.in-Err.ensures.some in
+    subst (λ (s : HostShown _). WritesOnly c.args.file (shown_host c.args.self.now) (shown_host s))
+    (sym c.fail_write.ensures) (other_failures c.args.file _ (shown_host c.args.self.now) _ writes)
 
 pub returns-in-Err-clause-some : goal.returns-in-Err-clause-some
 returns-in-Err-clause-some g c =
-    subst (λ (s : HostShown). SettlesSome (log_of (shown_host c.args.self.now) c.args.file)
+    subst (λ (s : HostShown _). SettlesSome (log_of (shown_host c.args.self.now) c.args.file)
     (log_of (shown_host s) c.args.file))
     (sym c.fail_write.ensures)
     (host_settles_some c.args.file _ c.args.self.now _ c.self.view_is

@@ -35,9 +35,8 @@ returns-in-Ok-clause-out g c =
 
 pub returns-in-Err-clause-only : goal.returns-in-Err-clause-only
 returns-in-Err-clause-only g c =
-    subst (λ (s : HostShown). WritesOnly c.args.file (shown_host c.args.self.now) (shown_host s))
-    (sym c.fail_write.ensures)
-    (other_failures c.args.file _ (shown_host c.args.self.now) _
-    (host_writes c.args.file _ c.args.self.now _ c.self.view_is c.index_mut-output.result.now
+    let writes = host_writes c.args.file _ c.args.self.now _ c.self.view_is c.index_mut-output.result.now
     c.write.new.self c.requires.opened c.index_mut-output.ensures.value refl []
-    (ap (λ (o : HostOutputShown). o.log.bytes) c.in-Err.ensures.failed ∙ sym (append-nil _))))
+    (ap (λ (o : HostOutputShown). o.log.bytes) c.in-Err.ensures.failed ∙ sym (append-nil _)) in
+    subst (λ (s : HostShown _). WritesOnly c.args.file (shown_host c.args.self.now) (shown_host s))
+    (sym c.fail_write.ensures) (other_failures c.args.file _ (shown_host c.args.self.now) _ writes)

@@ -33,6 +33,11 @@ impl Rights {
         }
     }
 
+    // Those of an open file. None if the system says nothing.
+    pub(crate) fn of(file: &File) -> Option<Rights> {
+        Some(Rights::in_metadata(&file.metadata().ok()?))
+    }
+
     // Gives them to a file, as far as the system allows that. It fails if the mode cannot be given.
     pub(crate) fn give(self, file: &File) -> io::Result<()> {
         let own = Rights::in_metadata(&file.metadata()?);
