@@ -70,6 +70,7 @@ long: build
 # The built program, its manual page, and the completions of words in three shells.
 install:
 	@test -x $(program) || { echo 'make install: nothing is built yet: run make first, as yourself' >&2; exit 1; }
+	@! packaging/unproved $(program) || { echo 'make install: the built program was not proved: run make first, as yourself' >&2; exit 1; }
 	@packaging/made $(program) || { echo 'make install: the built program was made of other sources: run make first, as yourself' >&2; exit 1; }
 	@install -d "$(bin)" "$(man)" "$(bash)" "$(zsh)" "$(fish)"
 	@install -m 755 $(program) "$(bin)/plrun"
