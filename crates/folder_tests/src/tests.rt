@@ -7,11 +7,14 @@ use folders::{
     Access, CallFault, Folder, FolderCall, MemoryFolder, Name, NotPlaced, Output, place_or_leave,
     place_stored, rename_or_leave, store_all, write_new,
 };
+use held_outputs::{Holding, NotMade};
+use memory_disk::MemoryDisk;
 use std::alloc::Global;
 use std::process::Abort;
 use std::test::Fail;
 
 mod disk;
+mod memory_disk;
 
 const OLD: &[u8] = b"old";
 
@@ -218,5 +221,26 @@ fn a_taken_name_is_refused_without_a_number(rt: HostRuntime) -> Result<(), Fail>
         folder.create(&a, Access::Private),
         Err(CallFault::Refused(None))
     );
+    Ok(())
+}
+
+#[test]
+fn outputs_are_held_over_a_disk_in_memory(rt: HostRuntime) -> Result<(), Fail> {
+    let alloc = rt.alloc();
+    let folder = MemoryFolder::new(alloc);
+    let mut holding = Holding::new(MemoryDisk { folder }, alloc);
+    let nowhere = output(alloc, b"/nowhere/at/all/.a.plrun", b"/nowhere/at/all/a")?;
+    assert!(rt;
+        matches!(
+            holding.add(&rt, alloc, &nowhere, &[], true),
+            Err(NotMade::Refused)
+        )
+    );
+    assert_eq!(rt; holding.count(), 0);
+    assert_eq!(rt; holding.end(0, true), Ok(()));
+    assert!(rt; holding.replaced(0).is_none() && !holding.is_there(&rt, 0));
+    assert_eq!(rt; holding.place(true), Ok(()));
+    assert_eq!(rt; holding.place(false), Ok(()));
+    assert_eq!(rt; holding.leave(), None);
     Ok(())
 }
